@@ -49,8 +49,17 @@ module _ {Handler : Type 0} (handler : HandlerMeaning Handler) (ks : List Sort) 
   goal = goal_trees (entries_of c) g
 
   -- ---- what is refused, and what is not settled
+  refused-there : (graph : SearchState) → GoalIsRefused handler c graph (table_of ks) PostAnalysis g → IsRefusedGoal handler w graph.root_depth ks goal
+  refused-there graph h = (
+    h.0,
+    h.1,
+    h.2,
+    λ clean first second x s sorted p.
+        h.3 (record { clean = clean; environment_known = first; predicate_known = second; table_known = λ r q a b e. b }) x s sorted p,
+  )
+
   pub refused-goal : (graph : SearchState) → GoalIsRefused handler c graph t PostAnalysis g → IsRefusedGoal handler w graph.root_depth ks goal
-  refused-goal graph h = subst (λ (u : Table). GoalIsRefused handler c graph u PostAnalysis g) table_is h
+  refused-goal graph h = refused-there graph (subst (λ (u : Table). GoalIsRefused handler c graph u PostAnalysis g) table_is h)
 
   unsettled-there : (graph : SearchState) → IsUnsettled handler c graph (table_of ks) PostAnalysis g → IsUnsettledGoal handler w graph.root_depth goal
   unsettled-there graph (inl h) = inl h

@@ -11,7 +11,7 @@ use Rattle.type_terms.specs.Promised.Versions.{with_impls, in_scope}
 use Rattle.type_terms.specs.Promised.Renumbering.{View, IsRenumbering, view_before, asker_in_set, renumbered_reference, renumbered_impl}
 use Rattle.type_terms.specs.Renumbering.{as_they_are}
 use Rattle.type_terms.specs.Promised.Supers.{dyns_of_bounds}
-use Rattle.type_terms.specs.Promised.LinkedSet.{AutoAtHome}
+use Rattle.type_terms.specs.Promised.LinkedSet.{AutoAtHome, ObeysTextRules, OrderedCrates}
 use Rattle.type_terms.specs.Promised.Arranging.{Arrangement, autos_in, with_autos, arranged, arranged_reference, arranged_struct, arranged_trait, arranged_impl, arranged_world}
 use Rattle.type_terms.specs.ArrangingLaws.{Listed, HoldsInOrder}
 use Rattle.type_terms.proofs.Members.{here, there, in-cases, in-nothing, in-filter, filter-in, in-map, same-number, self-number, not-both, true-or-false}
@@ -27,11 +27,9 @@ use Rattle.type_terms.proofs.Unseen.{OneEach}
 use Rattle.type_terms.proofs.ArrangedTrees.{fill-own, dyns-stay}
 use Rattle.type_terms.proofs.ArrangedRules.{BoundWorld}
 use Rattle.type_terms.proofs.ArrangedSets.{sees-same}
-use Rattle.sessions.specs.JoinedSets.{StructObeys, TraitObeys, ImplObeys, ObeysTextRules, KeepsOrphanRules}
-use Rattle.sessions.specs.Promised.AnsweredSets.{OrderedCrates}
+use Rattle.type_terms.proofs.JoinedParts.{fixed-member, StructObeys, TraitObeys, ImplObeys, struct-rules, trait-rules, impl-rules, all-obey}
 use Rattle.sessions.specs.AnsweredSets.{WasAskedInOrder}
 use Rattle.sessions.specs.Promised.AnsweredSets.{IsOfAskedCrates}
-use Rattle.sessions.proofs.FourRecords.{map-fixed, fixed-member, rules-of}
 use Rattle.sessions.proofs.RenumberedItems.{struct-obeys, trait-obeys, impl-obeys, auto-at-home, keeps-over, super-at}
 use Rattle.sessions.proofs.ArrangedItems.{plain-here, plain-trees-here, plain-references-here, trait-here, impl-here, keeps-here, auto-there, at-home-here}
 
@@ -121,6 +119,13 @@ tree-listed (tree l c o) = node refl (tree-listed c) (tree-listed o)
     node : {l l' : Label} {c c' o o' : Trees} → l ≡ l' → c ≡ c' → o ≡ o' → tree l c o ≡ tree l' c' o'
     node p q r = cc
 
+map-fixed : {A : Type 0} (f : A → A) (xs : List A) → ((x : A) → In x xs → f x ≡ x) → map f xs ≡ xs
+map-fixed f [] h = refl
+map-fixed {A = A} f (x ∷ xs) h = two (h x (here x xs)) (map-fixed f xs (λ y m. h y (there y x xs m)))
+  where
+    two : {a b : A} {ys zs : List A} → a ≡ b → ys ≡ zs → a ∷ ys ≡ b ∷ zs
+    two p q = cc
+
 references-listed : (rs : List Reference) → map (arranged_reference as-listed) rs ≡ rs
 references-listed rs = map-fixed (arranged_reference as-listed) rs (λ r m. ap (λ z. (let x : Reference = record { trait = r.trait; args = z } in x)) (tree-listed r.args))
 
@@ -150,7 +155,7 @@ abbrev core-listed : Listed
 core-listed = record { order = as-listed; view = core-view }
 
 core-rules : ObeysTextRules core_world
-core-rules = rules-of core_world [] (λ n. n) core-linked.joined
+core-rules = core-linked.joined.rules
 
 core-homes : (i : ImplDecl) → In i core_world.impls → i.home ≡ core
 core-homes i m = same-number i.home core (member-each (λ (x : ImplDecl). x.home == core) core_world.impls i refl m)
@@ -198,12 +203,12 @@ module _ (W : World) (os : List Listed) (rank : ℕ → ℕ) (o : OrderedCrates 
       let s = (source x.home (of.structs x m)).0 in
       let α = s.listed.order in
       plain-trees-here α x.fields
-      (struct-obeys (set-of s.listed) s.listed.view s.stands.renumbers s.stands.sees-text.text s.stands.sees-text.seen s.stands.sees-text.rules.structs (arranged_struct α x) (in-map (arranged_struct α) W.structs x m)
+      (struct-obeys (set-of s.listed) s.listed.view s.stands.renumbers s.stands.sees-text.text s.stands.sees-text.seen (struct-rules s.stands.sees-text.text s.stands.sees-text.rules) (arranged_struct α x) (in-map (arranged_struct α) W.structs x m)
       (sees-same α W (asker_in_set s.listed.view) x.home ∙ subst (λ d. sees W d x.home ≡ true) (sym s.asker) (sees-itself (length W.crates) W x.home)))
 
   trait-there : (x : TraitDecl) → In x W.traits → (s : Source W x.home) → TraitObeys (set-of s.listed) (arranged_trait s.listed.order x)
   trait-there x m s =
-      trait-obeys (set-of s.listed) s.listed.view s.stands.renumbers s.stands.sees-text.text s.stands.sees-text.seen s.stands.sees-text.rules.traits (arranged_trait s.listed.order x)
+      trait-obeys (set-of s.listed) s.listed.view s.stands.renumbers s.stands.sees-text.text s.stands.sees-text.seen (trait-rules s.stands.sees-text.text s.stands.sees-text.rules) (arranged_trait s.listed.order x)
       (in-map (arranged_trait s.listed.order) W.traits x m) (sym s.asker)
 
   -- ---- impls
@@ -246,7 +251,7 @@ module _ (W : World) (os : List Listed) (rank : ℕ → ℕ) (o : OrderedCrates 
     in-text i w = (in-filter (λ (z : ImplDecl). sees w.stands.sees-text.text w.listed.view.asker z.home) w.stands.sees-text.text.impls w.written (subst (λ (V : World). In w.written V.impls) w.stands.sees-text.seen w.there-written)).0
 
     obeys-text : (i : ImplDecl) (w : OfView i) → ImplObeys w.stands.sees-text.text w.written
-    obeys-text i w = w.stands.sees-text.rules.impls w.written (in-text i w)
+    obeys-text i w = impl-rules w.stands.sees-text.text w.stands.sees-text.rules w.written (in-text i w)
 
     impl-there : (i : ImplDecl) (w : OfView i) → ImplObeys (set-of w.listed) (arranged_impl w.listed.order i)
     impl-there i w =
@@ -297,7 +302,7 @@ module _ (W : World) (os : List Listed) (rank : ℕ → ℕ) (o : OrderedCrates 
             (auto-at-home (set-of w.listed) w.listed.view w.stands.renumbers w.stands.sees-text.text w.stands.sees-text.seen (one w.listed) w.stands.sees-text.rules.autos_at_home w.written (in-text i w) w.own (scope-there i w)
             (subst (λ (z : ImplDecl). is_auto (set-of w.listed) z.header.trait ≡ true) (sym w.is) (auto-there w.listed.order W bound i.header.trait auto))))
 
-    orphans : KeepsOrphanRules W
+    orphans : (i : ImplDecl) → In i W.impls → keeps_orphan_rule W i.home i.header ≡ true
     orphans i m = by (of-view i m)
       where
         by : OfView i → keeps_orphan_rule W i.home i.header ≡ true
@@ -393,7 +398,7 @@ module _ (W : World) (os : List Listed) (rank : ℕ → ℕ) (o : OrderedCrates 
       by s =
           let v = s.0 in
           let α = v.listed.order in
-          let z = super-at (set-of v.listed) v.listed.view v.stands.renumbers v.stands.sees-text.text v.stands.sees-text.seen v.stands.sees-text.rules.trait_rank v.stands.sees-text.rules.supers_before v.stands.sees-text.rules.traits
+          let z = super-at (set-of v.listed) v.listed.view v.stands.renumbers v.stands.sees-text.text v.stands.sees-text.seen v.stands.sees-text.rules.trait_rank v.stands.sees-text.rules.supers_before (trait-rules v.stands.sees-text.text v.stands.sees-text.rules)
           (arranged_trait α x) (in-map (arranged_trait α) W.traits x m) (sym v.asker) (arranged_reference α b) (in-map (arranged_reference α) x.bounds b k) in
           let y = map-in (arranged_trait α) W.traits z.0 z.1 in
           let named : y.0.name ≡ b.trait = ap (λ (q : TraitDecl). q.name) y.2 ∙ z.2 in
@@ -409,5 +414,5 @@ module _ (W : World) (os : List Listed) (rank : ℕ → ℕ) (o : OrderedCrates 
           of-two z a l (inr q) = two-keys (level z.home) (level x.home) bound-of-keys (key z.home z.name) (key x.home x.name) q a
 
   pub answered-obey : ((l : Listed) → In l os → (i : ImplDecl) → In i l.view.world.impls → i.home ≡ l.view.asker → keeps_orphan_rule l.view.world l.view.asker i.header ≡ true)
-      → ObeysTextRules W × KeepsOrphanRules W
-  answered-obey kept = (record { structs = structs; traits = traits kept; impls = impls kept; autos_at_home = at-home kept; trait_rank = place; supers_before = supers-before }, orphans kept)
+      → ObeysTextRules W × ((i : ImplDecl) → In i W.impls → keeps_orphan_rule W i.home i.header ≡ true)
+  answered-obey kept = (all-obey W structs (traits kept) (impls kept) (at-home kept) place supers-before, orphans kept)

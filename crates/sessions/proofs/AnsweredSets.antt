@@ -2,20 +2,19 @@
 use Rattle.std.proofs.Common.{◌≡◌, ◌⊎◌, inl, inr, ℕ, true, List, map, sym, subst}
 use Rattle.type_terms.specs.Promised.Worlds.{World, ImplDecl, core}
 use Rattle.type_terms.specs.Promised.Core.{core_world}
-use Rattle.type_terms.specs.Promised.Proofs.{In}
+use Rattle.type_terms.specs.Promised.Proofs.{In, Every}
 use Rattle.type_terms.specs.Promised.Walks.{keeps_orphan_rule}
 use Rattle.type_terms.specs.Promised.Renumbering.{View, HoldsView}
 use Rattle.type_terms.specs.ArrangingLaws.{Listed, HoldsInOrder}
+use Rattle.type_terms.specs.Promised.LinkedSet.{OrderedCrates, JoinedSet}
 use Rattle.type_terms.proofs.Members.{in-map}
 use Rattle.type_terms.proofs.ProofEntries.{map-in}
 use Rattle.type_terms.proofs.NoHolds.{every-member}
-use Rattle.sessions.specs.Promised.AnsweredSets.{OrderedCrates, HoldsAnswers}
-use Rattle.sessions.specs.JoinedSets.{IsJoined}
 use Rattle.sessions.specs.Promised.AnsweredSets.{WasAsked, IsOfAskedCrates}
 use Rattle.sessions.specs.AnsweredSets.{WasAskedInOrder}
 use Rattle.sessions.proofs.AnsweredInOrder.{SeesText, as-listed, world-listed, answered-obey}
 
-module _ (W : World) (vs : List View) (rank : ℕ → ℕ) (o : OrderedCrates W rank) (holds : HoldsAnswers W vs) (of : IsOfAskedCrates W (WasAsked vs)) (texts : (v : View) → In v vs → SeesText v) where
+module _ (W : World) (vs : List View) (rank : ℕ → ℕ) (o : OrderedCrates W rank) (holds : Every (HoldsView W) vs) (of : IsOfAskedCrates W (WasAsked vs)) (texts : (v : View) → In v vs → SeesText v) where
   abbrev listed : View → Listed
   listed v = record { order = as-listed; view = v }
 
@@ -45,7 +44,7 @@ module _ (W : World) (vs : List View) (rank : ℕ → ℕ) (o : OrderedCrates W 
       impl i (inl m) = inl m
       impl i (inr a) = inr (asked i.home a)
 
-  pub answered-joined : ((v : View) → In v vs → (i : ImplDecl) → In i v.world.impls → i.home ≡ v.asker → keeps_orphan_rule v.world v.asker i.header ≡ true) → IsJoined W vs rank
+  pub answered-joined : ((v : View) → In v vs → (i : ImplDecl) → In i v.world.impls → i.home ≡ v.asker → keeps_orphan_rule v.world v.asker i.header ≡ true) → JoinedSet W vs rank
   answered-joined kept =
       let q = answered-obey W os rank o stand crates (of-each SeesText texts) (of-each (λ v. (i : ImplDecl) → In i v.world.impls → i.home ≡ v.asker → keeps_orphan_rule v.world v.asker i.header ≡ true) kept) in
-      record { rules = q.0; order = o; orphans = q.1; answers = holds }
+      record { rules = q.0; fits = o; orphan_rule = q.1; as_answered = holds }

@@ -7,7 +7,7 @@ use Rattle.type_terms.specs.Promised.Rules.{is_auto}
 use Rattle.type_terms.specs.Promised.Proofs.{In}
 use Rattle.type_terms.specs.Promised.Walks.{struct_is, keeps_orphan_rule}
 use Rattle.type_terms.specs.Promised.Versions.{in_scope}
-use Rattle.type_terms.specs.Promised.LinkedSet.{is_stray}
+use Rattle.type_terms.specs.Promised.LinkedSet.{is_stray, IsPlainTerm}
 use Rattle.type_terms.specs.Promised.Arranging.{Arrangement, arranged, arranged_reference, arranged_trait, arranged_impl, arranged_world}
 use Rattle.type_terms.specs.Arranging.{turned_back}
 use Rattle.type_terms.proofs.Members.{in-map}
@@ -16,7 +16,7 @@ use Rattle.type_terms.proofs.ArrangedRules.{BoundWorld, auto-same}
 use Rattle.type_terms.proofs.ArrangedProofs.{world-back}
 use Rattle.type_terms.proofs.ArrangedAnswers.{some-same}
 use Rattle.type_terms.proofs.ArrangedSets.{term-there, scope-there, keeps-there, struct-so, mentions-stay}
-use Rattle.sessions.specs.JoinedSets.{IsPlainTerm, TraitObeys, ImplObeys}
+use Rattle.type_terms.proofs.JoinedParts.{TraitObeys, ImplObeys}
 
 -- ---- trees
 plain-there : (α : Arrangement) (t : Trees) → IsPlainTerm t → IsPlainTerm (arranged α t)

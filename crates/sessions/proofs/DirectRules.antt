@@ -2,8 +2,10 @@
 -- clauses with all their supertraits they are no more ways than the rules are under the clauses as they are written.
 use Rattle.std.proofs.Common.{◌≡◌, ◌⊎◌, inl, inr, ℕ, zero, suc, ◌+◌, ◌≤◌, arith, Bool, true, false, if◌then◌else◌, List, [], ◌∷◌, ◌++◌, map, refl, sym, ◌∙◌, ap, subst}
 use Rattle.std.specs.List.{list_any, flat_map}
+use Rattle.type_terms.specs.Promised.Answers.{AtMostOne}
+use Rattle.type_terms.specs.Promised.Trees.{some_node}
 use Rattle.type_terms.specs.Promised.Worlds.{World, Reference}
-use Rattle.type_terms.specs.Promised.Rules.{Rule, by_clause, by_super, impl_rules, built_in_rules, same_reference, strict_supertraits, super_rules, clause_rules, elaborated}
+use Rattle.type_terms.specs.Promised.Rules.{Rule, by_clause, by_super, rules, impl_rules, built_in_rules, same_reference, strict_supertraits, super_rules, clause_rules, elaborated}
 use Rattle.type_terms.specs.Promised.Proofs.{In, HasProof}
 use Rattle.type_terms.proofs.Members.{here, there, in-cases, in-nothing, in-flat, flat-in, some-member, member-some, not-both}
 use Rattle.goal_evaluator.specs.Lists.{Every, SomeOf}
@@ -14,13 +16,17 @@ use Rattle.solver_completeness.specs.ModelWays.{ways_under}
 use Rattle.solver_completeness.specs.SolverChoices.{IsElaborated}
 use Rattle.solver_completeness.specs.SolverGoals.{FactIsProved}
 use Rattle.solver_completeness.specs.SolverWays.{facts_beside, premises_of}
-use Rattle.solver_completeness.specs.Ways.{AtMostOneHolds, HasOneWayWithin, HoldsByWays}
-use Rattle.solver_completeness.proofs.ModelWays.{proofs_are_by_ways}
+use Rattle.solver_completeness.specs.RowWays.{clause_ways}
+use Rattle.solver_completeness.specs.Ways.{AtMostOneHolds, HasShortChains, HasOneWayWithin, HoldsByWays}
+use Rattle.solver_completeness.proofs.Arranging.{clause-copies}
+use Rattle.solver_completeness.proofs.FewWays.{HasFewWaysWithin}
+use Rattle.solver_completeness.proofs.ModelWays.{proofs_are_by_ways, at-most, every-mapped}
 use Rattle.solver_completeness.proofs.MovedWays.{every-from, every-to, some-from, some-to, one-to}
-use Rattle.solver_completeness.proofs.Selecting.{every-left, some-cases, some-both, one-left, one-right, one-cross, one-both, copies, hits, hit, which, AreOnce, map-either}
+use Rattle.solver_completeness.proofs.Selecting.{every-left, some-cases, some-both, one-left, one-right, one-cross, one-both, copies, hits, hit, which, map-either}
 use Rattle.goal_evaluator.proofs.Basics.{every-append}
 use Rattle.type_terms.proofs.ListBasics.{append-assoc}
 use Rattle.solver_completeness.proofs.Basics.{premises-append}
+use Rattle.sessions.specs.Promised.Promises.{EndsWithin, HasFewRules, has_lifetimes}
 pub use Rattle.solver_completeness.proofs.Selecting.{hits-fewer}
 
 -- ---- the rules
@@ -40,6 +46,10 @@ direct_under V E r = premises_of (direct_rules V E r)
 abbrev pub direct_ways : World → Fact → List (List Fact)
 direct_ways V f = facts_beside f (direct_under V (clauses_of f.goal.environment) (reference_in f))
 
+-- where-clauses that are the fact
+abbrev pub own_ways : Fact → List (List Fact)
+own_ways f = facts_beside f (clause_ways (reference_in f) (clauses_of f.goal.environment))
+
 -- ---- lists
 
 split : (i b w : List Rule) → premises_of (i ++ (b ++ w)) ≡ premises_of (i ++ b) ++ premises_of w
@@ -53,6 +63,10 @@ some-mono P Q f (x ∷ xs) (inr s) = inr (some-mono P Q f xs s)
 one-mono : {A : Type 0} (P Q : A → Type 0) → ((x : A) → P x → Q x) → (xs : List A) → AtMostOneHolds Q xs → AtMostOneHolds P xs
 one-mono P Q f [] h = tt
 one-mono P Q f (x ∷ xs) h = (λ p s. h.0 (f x p) (some-mono P Q f xs s), one-mono P Q f xs h.1)
+
+no-last : (us : List Rule) → us ++ [] ≡ us
+no-last [] = refl
+no-last (u ∷ us) = ap (λ z. u ∷ z) (no-last us)
 
 -- ---- the way that asks nothing, so many times
 two-copies : {A : Type 0} (n k : ℕ) (x : A) → copies n x ++ copies k x ≡ copies (n + k) x
@@ -80,6 +94,16 @@ module _ (Q : List Reference → Type 0) (q : Q []) where
 
   more-copies : (c k : ℕ) → c ≤ k → SomeOf Q (copies c []) → SomeOf Q (copies k [])
   more-copies c k l s = let m = of-copies c s in some-copies k (omega (arith, l, m))
+
+  few-copies : (n : ℕ) → n ≤ 1 → AtMostOneHolds Q (copies n [])
+  few-copies zero l = tt
+  few-copies (suc zero) l = (λ p s. s, tt)
+  few-copies (suc (suc n)) l = absurd (omega (arith, l))
+
+  are-few : (n : ℕ) → AtMostOneHolds Q (copies n []) → n ≤ 1
+  are-few zero h = omega arith
+  are-few (suc zero) h = omega arith
+  are-few (suc (suc n)) h = absurd (h.0 q (inl q))
 
   one-fewer : (c k : ℕ) → c ≤ k → AtMostOneHolds Q (copies k []) → AtMostOneHolds Q (copies c [])
   one-fewer zero k l h = tt
@@ -232,6 +256,13 @@ module _ (V : World) where
   abbrev pub others : Reference → List Rule
   others r = flat_map (impl_rules r) V.impls ++ built_in_rules V r
 
+  pub without-clauses : (r : Reference) → rules V [] r ≡ others r
+  without-clauses r = ap (λ us. flat_map (impl_rules r) V.impls ++ us) (no-last (built_in_rules V r))
+
+  -- the ways by impls, built-in rules and bounds
+  abbrev pub others_under : Reference → List (List Reference)
+  others_under r = premises_of (others r)
+
   rules-split : (E : List Reference) (r : Reference) → ways_under V E r ≡ premises_of (others r) ++ premises_of (clause_rules V r 0 E)
   rules-split E r = split (flat_map (impl_rules r) V.impls) (built_in_rules V r) (clause_rules V r 0 E)
 
@@ -280,6 +311,44 @@ module _ (V : World) where
               (every-copies Later tt d.number)),
         )
 
+    -- what holds of the premises of each rule holds of those of each direct way
+    direct-each : (P Q : Reference → Type 0) → ((p : Reference) → P p → Q p) → (r : Reference) → Every (Every P) (ways_under V E r) → Every (Every Q) (direct_under V F r)
+    direct-each P Q f r h =
+        let d = direct-copies V r F closed in
+        let k = hits (λ s. same_reference s r) (elaborated V E) in
+        let written : ways_under V E r ≡ premises_of (others r) ++ copies k [] = rules-split E r ∙ ap (λ z. premises_of (others r) ++ z) (rules-copies V r 0 E) in
+        let direct : direct_under V F r ≡ premises_of (others r) ++ copies d.number [] = direct-split F r ∙ ap (λ z. premises_of (others r) ++ z) d.are in
+        subst (Every (Every Q)) (sym direct)
+        (every-append (Every Q) (premises_of (others r)) (copies d.number [])
+        (Every-mono (Every P) (Every Q) (λ ps i. Every-mono P Q f ps i) (premises_of (others r)) (every-left (Every P) (premises_of (others r)) (copies k []) (subst (Every (Every P)) written h)))
+        (every-copies (Every Q) tt d.number))
+
+    pub direct-short : (n : ℕ) (r : Reference) → EndsWithin n V E r → HasShortChains (direct_under V F) n r
+    direct-short zero r h = absurd h
+    direct-short (suc n) r h =
+        direct-each (EndsWithin n V E) (HasShortChains (direct_under V F) n) (λ p j. direct-short n p j) r (every-mapped V E (Every (EndsWithin n V E)) (rules V E r) h)
+
+    -- where-clauses that are equal up to lifetimes are equal, if there are no lifetimes
+    module _ (lone : (r : Reference) → some_node has_lifetimes r.args ≡ false → hits (λ s. same_reference s r) F ≤ 1) where
+      own-few : (r : Reference) → (some_node has_lifetimes r.args ≡ true → AtMostOne V E (clause_rules V r 0 E)) → hits (λ s. same_reference s r) F ≤ 1
+      own-few r h = by (some_node has_lifetimes r.args) refl
+        where
+          by : (b : Bool) → some_node has_lifetimes r.args ≡ b → hits (λ s. same_reference s r) F ≤ 1
+          by false e = lone r e
+          by true e =
+              let fewer = few r in
+              let one = are-few (Every (HasProof V E)) tt (hits (λ s. same_reference s r) (elaborated V E)) (subst (AtMostOneHolds (Every (HasProof V E))) (rules-copies V r 0 E) (at-most V E (clause_rules V r 0 E) (h e))) in
+              omega (arith, fewer, one)
+
+      pub direct-few : (n : ℕ) (r : Reference) → HasFewRules n V E r → HasFewWaysWithin (direct_under V F) (λ p. clause_ways p F) (others_under) (HasProof V F) n r
+      direct-few zero r h = absurd h
+      direct-few (suc n) r h = (
+        subst (AtMostOneHolds (Every (HasProof V F))) (sym (clause-copies V r F)) (few-copies (Every (HasProof V F)) tt (hits (λ s. same_reference s r) F) (own-few r h.1)),
+        one-mono (Every (HasProof V F)) (Every (HasProof V E)) (λ ps i. Every-mono (HasProof V F) (HasProof V E) back ps i) (premises_of (others r))
+            (subst (λ us. AtMostOneHolds (Every (HasProof V E)) (premises_of us)) (without-clauses r) (at-most V E (rules V [] r) h.0)),
+        direct-each (HasFewRules n V E) (HasFewWaysWithin (direct_under V F) (λ p. clause_ways p F) (others_under) (HasProof V F) n) (λ p j. direct-few n p j) r (every-mapped V E (Every (HasFewRules n V E)) (rules V E r) h.2),
+      )
+
   -- ---- the truth of facts
   abbrev under : Fact → Reference → List (List Reference)
   under f r = direct_under V (clauses_of f.goal.environment) r
@@ -305,4 +374,28 @@ module _ (V : World) where
     one-to (map (beside f)) (Every (FactIsProved V)) (Every (Proved f)) (λ ps i. every-from (beside f) (FactIsProved V) (Proved f) (λ r p. p) ps i) (under f (reference_in f)) h.0,
     every-to (map (beside f)) (Every (HasOneWayWithin (direct_ways V) (FactIsProved V) n)) (Every (HasOneWayWithin (under f) (Proved f) n))
         (λ ps i. every-to (beside f) (HasOneWayWithin (direct_ways V) (FactIsProved V) n) (HasOneWayWithin (under f) (Proved f) n) (λ r j. decided-directly n (beside f r) j) ps i) (under f (reference_in f)) h.1,
+  )
+
+  -- short where its reference is
+  pub short-directly : (n : ℕ) (f : Fact) → HasShortChains (under f) n (reference_in f) → HasShortChains (direct_ways V) n f
+  short-directly zero f h = absurd h
+  short-directly (suc n) f h =
+      every-to (map (beside f)) (Every (HasShortChains (direct_ways V) n)) (Every (HasShortChains (under f) n))
+      (λ ps i. every-to (beside f) (HasShortChains (direct_ways V) n) (HasShortChains (under f) n) (λ r j. short-directly n (beside f r) j) ps i) (under f (reference_in f)) h
+
+  -- with few ways where its reference has few
+  abbrev pub own_by : Fact → Reference → List (List Reference)
+  own_by f r = clause_ways r (clauses_of f.goal.environment)
+
+  abbrev pub other_ways : Fact → List (List Fact)
+  other_ways f = facts_beside f (others_under (reference_in f))
+
+  pub few-directly : (n : ℕ) (f : Fact) → HasFewWaysWithin (under f) (own_by f) (others_under) (Proved f) n (reference_in f) → HasFewWaysWithin (direct_ways V) own_ways other_ways (FactIsProved V) n f
+  few-directly zero f h = absurd h
+  few-directly (suc n) f h = (
+    one-to (map (beside f)) (Every (FactIsProved V)) (Every (Proved f)) (λ ps i. every-from (beside f) (FactIsProved V) (Proved f) (λ r p. p) ps i) (own_by f (reference_in f)) h.0,
+    one-to (map (beside f)) (Every (FactIsProved V)) (Every (Proved f)) (λ ps i. every-from (beside f) (FactIsProved V) (Proved f) (λ r p. p) ps i) (others_under (reference_in f)) h.1,
+    every-to (map (beside f)) (Every (HasFewWaysWithin (direct_ways V) own_ways other_ways (FactIsProved V) n)) (Every (HasFewWaysWithin (under f) (own_by f) (others_under) (Proved f) n))
+        (λ ps i. every-to (beside f) (HasFewWaysWithin (direct_ways V) own_ways other_ways (FactIsProved V) n) (HasFewWaysWithin (under f) (own_by f) (others_under) (Proved f) n) (λ r j. few-directly n (beside f r) j) ps i)
+        (under f (reference_in f)) h.2,
   )

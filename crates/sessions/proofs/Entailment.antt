@@ -19,14 +19,13 @@ use Rattle.type_terms.proofs.ProofLists.{all-stand}
 use Rattle.type_terms.proofs.SupersProved.{supers-proved-for-all}
 use Rattle.type_terms.proofs.LaterVersions.{proof-before}
 use Rattle.type_terms.proofs.RenumberedAnswers.{proof-there}
-use Rattle.type_terms.proofs.FilledTrees.{Filling, put, Written}
+use Rattle.type_terms.proofs.FilledTrees.{Filling, put}
 use Rattle.type_terms.proofs.FilledRules.{PlainWorld, over-supers}
 use Rattle.type_terms.proofs.Fillings.{shift-shut}
 use Rattle.type_terms.proofs.Discharged.{Given, given, discharged}
 use Rattle.type_terms.proofs.ArrangedTrees.{reference-at}
 use Rattle.type_terms.specs.Promised.Questions.{filled_reference as with_values}
-use Rattle.sessions.specs.JoinedSets.{ObeysTextRules, IsPlainTerm}
-use Rattle.sessions.proofs.FourRecords.{rules-of}
+use Rattle.type_terms.proofs.JoinedParts.{map-written}
 use Rattle.sessions.specs.Promised.Entailment.{ClosedArguments, closed_instance, closed_bounds, closed_reference, HasClosedProof, Entails, YesHolds}
 
 -- ---- arguments as a filling
@@ -102,7 +101,7 @@ module _ (W : World) (vs : List View) (rank : ℕ → ℕ) (l : JoinedSet W vs r
   not-by-impl a u h =
       let m = in-flat (impl_rules (asked sized a)) W.impls u h in
       let b = impl-rule (asked sized a) m.0 u m.2 in
-      not-both (m.0.header.trait == sized) (subst (λ n. (n == sized) ≡ true) (sym (ap (λ (x : Reference). x.trait) b.is-instance)) (self-number sized)) (l.sized_alone m.0 m.1)
+      not-both (m.0.header.trait == sized) (subst (λ n. (n == sized) ≡ true) (sym (ap (λ (x : Reference). x.trait) b.is-instance)) (self-number sized)) (l.rules.sized_alone m.0 m.1)
 
   no-row-of-dyn : (c : Trees) (u : Rule) → In u (built_in_rules W (asked sized (tree dynamic c none))) → ⊥
   no-row-of-dyn c u h = by (in-append u (if is_auto W sized then auto_rules W sized (tree dynamic c none) else []) _ h)
@@ -160,19 +159,8 @@ module _ (W : World) (vs : List View) (rank : ℕ → ℕ) (l : LinkedSet W vs r
   pub filled-proved : (σ : Filling) (E : List Reference) (r : Reference) → HasProof W E r → ((k : Reference) → In k E → HasClosedProof W (put_in σ k)) → HasProof W [] (put_in σ r)
   filled-proved σ E r p proved = discharged W w σ E (never-sized W vs rank l.joined) (sized-by-clauses W vs rank l.joined E) base.0 base.1 base-has p.0 p.1 r p.2
     where
-      obeys : ObeysTextRules W
-      obeys = rules-of W vs rank l.joined
-
-      written : (t : Trees) → IsPlainTerm t → Written t
-      written t h = (h.open_places, h.dyns)
-
       w : PlainWorld W
-      w = record {
-        headers = λ i m. written i.header.args (obeys.impls i m).plain_header;
-        clauses = λ i k m n. written k.args ((obeys.impls i m).plain_clauses k n);
-        fields = λ x t m n. written t (obeys.structs x m t n);
-        bounds = λ x b m n. written b.args ((obeys.traits x m).plain b n);
-      }
+      w = map-written W (λ t p. (p.open_places, p.dyns)) l.joined.rules.plain
 
       -- what the clauses give
       gives : Reference → List Reference

@@ -105,7 +105,7 @@ module _ (ks : List Sort) (ts : List Trees) (fit : FitKinds ks ts) (shut : Every
   at-const i c o h = placed-at of_const ks ts fit shut i (below i (number_of of_const ks) (stray-first (infer of_const i) c o h))
 
   -- the value, and then what comes behind
-  joined : (s : Sort) (i : ℕ) (o p : Trees) → IsPlaced s (slice_get (of_kind s ks ts) i) → o ≡ p
+  pub joined : (s : Sort) (i : ℕ) (o p : Trees) → IsPlaced s (slice_get (of_kind s ks ts) i) → o ≡ p
       → tree (S s i).0 (S s i).1 o ≡ unwrap_or (slice_get (of_kind s ks ts) i) (leaf (infer s i)) +++ p
   joined s i o p at e =
       let r = root-is s (slice_get (of_kind s ks ts) i) at in
@@ -152,10 +152,10 @@ module _ (ks : List Sort) (ts : List Trees) (fit : FitKinds ks ts) (shut : Every
   open-label (principal n t) h m = refl
   open-label l h n = refl
 
-  shut-node : (l : Label) (c o : Trees) → is_open l ≡ false → some_node is_open c ≡ false → some_node is_open o ≡ false → some_node is_open (tree l c o) ≡ false
+  pub shut-node : (l : Label) (c o : Trees) → is_open l ≡ false → some_node is_open c ≡ false → some_node is_open o ≡ false → some_node is_open (tree l c o) ≡ false
   shut-node l c o a b e = or-no (is_open l || some_node is_open c) (some_node is_open o) (or-no (is_open l) (some_node is_open c) a b) e
 
-  shut-value : (s : Sort) (i : ℕ) (o : Trees) → IsPlaced s (slice_get (of_kind s ks ts) i) → some_node is_open o ≡ false → some_node is_open (tree (S s i).0 (S s i).1 o) ≡ false
+  pub shut-value : (s : Sort) (i : ℕ) (o : Trees) → IsPlaced s (slice_get (of_kind s ks ts) i) → some_node is_open o ≡ false → some_node is_open (tree (S s i).0 (S s i).1 o) ≡ false
   shut-value s i o at e =
       let r = root-is s (slice_get (of_kind s ks ts) i) at in
       ap (λ (x : Label × Trees). some_node is_open (tree x.0 x.1 o)) r

@@ -12,7 +12,8 @@ use Rattle.type_terms.specs.Promised.Core.{core_world}
 use Rattle.type_terms.specs.Promised.Proofs.{In}
 use Rattle.type_terms.specs.Promised.Walks.{struct_is, keeps_orphan_rule}
 use Rattle.type_terms.specs.Renumbering.{view_at}
-use Rattle.type_terms.specs.Promised.LinkedSet.{JoinedSet, AutoAtHome, is_stray, dyns_rise, all_args, all_written}
+use Rattle.type_terms.specs.Promised.LinkedSet.{JoinedSet, AutoAtHome, is_stray, dyns_rise, IsPlainTerm, ObeysTextRules, OrderedCrates}
+use Rattle.type_terms.specs.LinkedSet.{all_args, all_written}
 use Rattle.type_terms.specs.Promised.Versions.{sees_struct, sees_trait, well_written, in_scope}
 use Rattle.type_terms.proofs.Members.{in-filter, filter-in, in-map, some-member, member-some, same-number, self-number, so-false}
 use Rattle.type_terms.proofs.NoHolds.{member-each, each-member}
@@ -34,11 +35,9 @@ use Rattle.view_lowering.specs.Seen.{param_sorts}
 use Rattle.view_lowering.proofs.Tests.{is_good, is_good_struct, is_good_trait, is_good_impl, all_stand}
 use Rattle.view_lowering.proofs.Trees.{and, and-left, and-right}
 use Rattle.type_terms.specs.Promised.Supers.{dyns_of_bounds, mentions_as}
-use Rattle.sessions.specs.JoinedSets.{IsPlainTerm, TraitObeys, ImplObeys, ObeysTextRules}
-use Rattle.sessions.specs.Promised.AnsweredSets.{OrderedCrates}
+use Rattle.type_terms.proofs.JoinedParts.{TraitObeys, ImplObeys, all-obey}
 use Rattle.sessions.specs.Promised.CoherentTexts.{text_world}
 use Rattle.sessions.specs.JoinedTexts.{CratesKeepOrphanRule, TextsAreJoined, TextsListInOrder}
-use Rattle.sessions.proofs.FourRecords.{joined-of-four}
 use Rattle.sessions.proofs.Seeing.{AreOrdered, core-seen, from-core}
 use Rattle.sessions.proofs.TextTerms.{IsStructAt, IsTraitAt, TextNodes, IsPlaced}
 use Rattle.sessions.proofs.FormedViews.{each-in, map-in}
@@ -395,20 +394,17 @@ module _ (d : Declarations) (a : AllKept d) where
 
   -- ---- the rules of the text
   pub text-obeys : ObeysTextRules W
-  text-obeys = record {
-    structs = λ x i t j.
-        let q = struct-at x i in
-        let r = map-at erase q.1.item.fields t (subst (λ (z : StructDecl). In t z.fields) q.3 j) in
-        subst IsPlainTerm (sym r.3) (good-term none_kept q.1.kinds r.1 (good-field q.0 q.1 q.2 r.0 r.1 r.2));
-    traits = λ x i. let q = trait-at x i in subst (TraitObeys W) (sym q.3) (trait-obeys q.0 q.1 q.2);
-    impls = λ x i. let q = impl-at x i in subst (ImplObeys W) (sym q.3) (impl-obeys q.0 q.1 q.2);
-    autos_at_home = autos-at-home;
-    trait_rank = λ n. n;
-    supers_before = λ x b i j.
-        let q = trait-at x i in
-        let r = map-at erased_reference q.1.item.bounds b (subst (λ (z : TraitDecl). In b z.bounds) q.3 j) in
-        subst (λ (z : TraitDecl). b.trait < z.name) (sym q.3) (subst (λ (z : Reference). z.trait < q.1.item.name) (sym r.3) (bound-below q.0 q.1 q.2 r.0 r.1 r.2));
-  }
+  text-obeys =
+      all-obey W
+      (λ x i t j.
+      let q = struct-at x i in
+      let r = map-at erase q.1.item.fields t (subst (λ (z : StructDecl). In t z.fields) q.3 j) in
+      subst IsPlainTerm (sym r.3) (good-term none_kept q.1.kinds r.1 (good-field q.0 q.1 q.2 r.0 r.1 r.2)))
+      (λ x i. let q = trait-at x i in subst (TraitObeys W) (sym q.3) (trait-obeys q.0 q.1 q.2)) (λ x i. let q = impl-at x i in subst (ImplObeys W) (sym q.3) (impl-obeys q.0 q.1 q.2)) autos-at-home (λ n. n)
+      (λ x b i j.
+      let q = trait-at x i in
+      let r = map-at erased_reference q.1.item.bounds b (subst (λ (z : TraitDecl). In b z.bounds) q.3 j) in
+      subst (λ (z : TraitDecl). b.trait < z.name) (sym q.3) (subst (λ (z : Reference). z.trait < q.1.item.name) (sym r.3) (bound-below q.0 q.1 q.2 r.0 r.1 r.2)))
     where
       trait-obeys : (k : ℕ) (n : NamedTrait) → slice_get d.traits k ≡ Some n → TraitObeys W (erased_trait n.item)
       trait-obeys k n e = record {
@@ -447,7 +443,7 @@ module _ (d : Declarations) (a : AllKept d) where
 
   -- ---- all of it
   pub joined : CratesKeepOrphanRule d → (cs : List ℕ) → JoinedSet W (map (view_at W) cs) (λ n. n)
-  joined orphan cs = joined-of-four W (map (view_at W) cs) (λ n. n) (record { rules = text-obeys; order = text-is-ordered; orphans = orphan-rule orphan; answers = hold-views W cs })
+  joined orphan cs = record { rules = text-obeys; fits = text-is-ordered; orphan_rule = orphan-rule orphan; as_answered = hold-views W cs }
 
 pub texts-are-joined : TextsAreJoined
 texts-are-joined d (bytes, t) h cs = joined d (texts-are-kept bytes d (text-gives bytes (Ok d) t)) h cs

@@ -56,7 +56,7 @@ module _ {Handler : Type 0} (handler : HandlerMeaning Handler) where
   pub limits-searched : (c d : SolverCx Handler) → Search.KeepsContext (solver_meaning handler) c d → KeepsLimits c d
   limits-searched c d k = let same = k.held (of_limits c.interner.limit (limit_of c.store)) (refl, refl) in record { terms = same.0; kept = same.1 }
 
-  pub resting-first : (n : ℕ) (c : SolverCx Handler) (s : SearchState) (ks : Cached) → s ≡ record { root_depth = n; current_depth = 0; frames = 0; limits_met = false } → ks ≡ [] → IsReadyContext handler.IsReady c
+  pub resting-first : (n : ℕ) (c : SolverCx Handler) (s : SearchState) (ks : Cached) → s ≡ record { root_depth = n; current_depth = 0; frames = 0; limits_met = false; spent = 0 } → ks ≡ [] → IsReadyContext handler.IsReady c
       → AreAtRest handler n c s ks
   resting-first n c s ks e f r = record {
     empty = ap (λ (z : SearchState). z.current_depth) e;
@@ -82,7 +82,7 @@ pub solves-seen : (d : Declarations) (c : ℕ) (es : List Entry) (decls : Items)
     → IsSolvingOf d c (solving_of (entries_of cx) cx.handler.declarations)
 solves-seen d c es decls cx terms by seen l = record { entries = es; declarations = decls; seen = seen; local = l; is = ap (λ x. solving_of x cx.handler.declarations) terms ∙ ap (solving_of es) by }
 
-pub solver-rests-first : (n : ℕ) (cx : SolverCx Solver) (s : SearchState) (ks : Cached) → s ≡ record { root_depth = n; current_depth = 0; frames = 0; limits_met = false } → ks ≡ []
+pub solver-rests-first : (n : ℕ) (cx : SolverCx Solver) (s : SearchState) (ks : Cached) → s ≡ record { root_depth = n; current_depth = 0; frames = 0; limits_met = false; spent = 0 } → ks ≡ []
     → IsReadyContext (λ (h : Solver) es. AreReadyDeclarations es h.declarations) cx → SolverRests n cx s ks
 solver-rests-first n cx s ks e f r =
     resting-first solver_by_view n cx s ks e f r

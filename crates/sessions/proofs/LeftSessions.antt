@@ -8,7 +8,7 @@ use Rattle.candidate_assembly.specs.declared.solver.Solver.{Solver}
 use Rattle.sessions.specs.LeftSessions.{IsLeftSession, LeavesView}
 use Rattle.sessions.specs.SeenViews.{IsViewOf}
 use Rattle.sessions.specs.Sessions.{IsSessionWithin}
-use Rattle.sessions.specs.Promised.Subjects.{IsOfText, Subject}
+use Rattle.sessions.specs.Promised.Subjects.{IsOfText}
 use Rattle.sessions.specs.declared.left_session.LeftSession.{LeftSession}
 use Rattle.sessions.specs.declared.seen_view.SeenView.{SeenView}
 
@@ -53,13 +53,6 @@ view-left-by d depth handles left is interner solver same by frames =
     } in
     subst (λ (t : Terms). IsViewOf d id.index handles (record { crate_id = id; interner = t; declarations = solver.declarations; frames = frames })) (sym same)
     (subst (λ (h : Solver). IsViewOf d id.index handles (record { crate_id = id; interner = cx.interner; declarations = h.declarations; frames = frames })) (sym by) view)
-
--- ---- of the text that a session was made on
-pub left-session : (s : Subject) (d : Declarations) (depth handles : ℕ) (left : LeftSession) → s.declarations ≡ d → s.depth ≡ depth → s.handles ≡ handles
-    → IsLeftSession s.declarations s.depth s.handles left → IsLeftSession d depth handles left
-left-session s d depth handles left text deep room h =
-    subst (λ (x : Declarations). IsLeftSession x depth handles left) text
-    (subst (λ n. IsLeftSession s.declarations n handles left) deep (subst (λ n. IsLeftSession s.declarations s.depth n left) room h))
 
 -- ---- none of it is about queries
 pub left-of-asked : (d : Declarations) (q : Question) (depth handles : ℕ) (left : LeftSession) → IsLeftSession d depth handles left → IsLeftSession (with_question d q) depth handles left

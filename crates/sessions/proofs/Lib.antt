@@ -69,6 +69,8 @@ pub mod SolversClauses
 pub mod RightAnswers
 pub mod ProvedQuestions
 mod BareAnswers
+mod SizedAlone
+mod Unsolved
 mod OtherAnswers
 pub mod OpaqueTerms
 mod StrictSupertraits
@@ -85,7 +87,6 @@ pub mod DeclaredTrees
 mod CoveredClauses
 mod RisingBounds
 mod KeptTexts
-pub mod FourRecords
 mod RenumberedItems
 pub mod JoinedTexts
 pub mod OwnValues

@@ -14,7 +14,6 @@ use Rattle.sessions.specs.Promised.AnsweredSets.{IsAcceptedAndHeld, AnsweredSets
 use Rattle.sessions.specs.AnsweredSets.{TextsObeyTheirRules, AnsweredSetsInAnyOrder}
 use Rattle.sessions.proofs.KeptTexts.{texts-are-kept}
 use Rattle.sessions.proofs.JoinedTexts.{text-obeys}
-use Rattle.sessions.proofs.FourRecords.{joined-of-four}
 use Rattle.sessions.proofs.AnsweredInOrder.{SeesText, answered-obey}
 use Rattle.sessions.proofs.AnsweredSets.{answered-joined}
 use Rattle.text_language.proofs.SameTexts.{text-gives}
@@ -28,7 +27,7 @@ sees-text v a = record { text = text_world a.text; rules = texts-obey-their-rule
 pub answered-sets-are-linked : AnsweredSetsAreLinked
 answered-sets-are-linked W vs rank s =
     held-linked W vs rank
-    (joined-of-four W vs rank (answered-joined W vs rank s.fits s.holds s.crates (λ v m. sees-text v (s.answered v m)) (λ v m. (s.answered v m).accepted.keeps)))
+    (answered-joined W vs rank s.fits s.holds s.crates (λ v m. sees-text v (s.answered v m)) (λ v m. (s.answered v m).accepted.keeps))
     s.crates.impls (λ v m. (s.answered v m).held)
 
 pub answered-sets-are-coherent : HeadlineHolds → AnswersHoldEverywhere → AnsweredSetsAreCoherent
@@ -42,7 +41,7 @@ answered-sets-in-any-order headline W os rank s =
     linked : LinkedSet W [] rank
     linked =
         let q = answered-obey W os rank s.fits s.holds s.crates (λ o m. sees-text o.view (s.answered o m)) (λ o m. (s.answered o m).accepted.keeps) in
-        held-in-any-order W rank (joined-of-four W [] rank (record { rules = q.0; order = s.fits; orphans = q.1; answers = tt })) os s.holds s.crates.impls (λ o m. (s.answered o m).held)
+        held-in-any-order W rank (record { rules = q.0; fits = s.fits; orphan_rule = q.1; as_answered = tt }) os s.holds s.crates.impls (λ o m. (s.answered o m).held)
 
     stand : (o : Listed) → In o (os ++ os) → HoldsInOrder W o.order o.view
     stand o m = elim (in-append o os os m) [ inl k ↦ s.holds o k | inr k ↦ s.holds o k ]

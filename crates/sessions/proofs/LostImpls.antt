@@ -26,11 +26,10 @@ use Rattle.type_terms.proofs.WiderSets.{proofs-above}
 use Rattle.type_terms.proofs.FilledTrees.{Filling}
 use Rattle.type_terms.proofs.Fillings.{filling, fits-meets, fits-mentioned, meets-mentioned, over-opaque}
 use Rattle.type_terms.proofs.ArrangedTrees.{reference-at}
+use Rattle.type_terms.proofs.JoinedParts.{ImplObeys, impl-rules}
 use Rattle.sessions.specs.Promised.Entailment.{HasClosedProof}
 use Rattle.sessions.specs.Promised.Releases.{KeepsWhatHeld, OldProofsStay}
 use Rattle.sessions.specs.Later.{OldRefutationsStay}
-use Rattle.sessions.specs.JoinedSets.{ImplObeys}
-use Rattle.sessions.proofs.FourRecords.{rules-of}
 use Rattle.sessions.proofs.Entailment.{put_in, filled-proved}
 
 module _ (W : World) (us : List View) (rank : ℕ → ℕ) (l : LinkedSet W us rank) (old : World) (vs : List View) (before : ℕ → ℕ) (o : JoinedSet old vs before) (c : ℕ) (k : KeepsWhatHeld (view_of old c) (view_of W c) W) where
@@ -99,7 +98,7 @@ module _ (W : World) (us : List View) (rank : ℕ → ℕ) (l : LinkedSet W us r
       σ = filling A open-none
 
       obeys : ImplObeys old i
-      obeys = (rules-of old vs before o).impls i (seen-impl i m)
+      obeys = impl-rules old o.rules i (seen-impl i m)
 
       header-is : put_in σ (opaque_reference i.header) ≡ with_args A i.header
       header-is =

@@ -1,6 +1,6 @@
 -- Of a decided question the solver says neither `Unproved` nor `Maybe` wrongly.
-use Rattle.std.proofs.Common.{◌≡◌, ℕ, Bool, true, false, not, ◌||◌, List, [], ◌∷◌, map, Option, Some, None, inl, inr, refl, sym, ◌∙◌, ap, subst}
-use Rattle.type_terms.specs.Promised.Answers.{SingleWay, IsUnambiguous}
+use Rattle.std.proofs.Common.{◌≡◌, ℕ, IsTrue, true, false, not, ◌||◌, List, [], ◌∷◌, map, Option, Some, None, inl, inr, refl, sym, ◌∙◌, ap}
+use Rattle.type_terms.specs.Promised.Answers.{SingleWay, is_variable}
 use Rattle.type_terms.specs.Promised.Label.{Label, Sort, of_type, of_const, of_lifetime, infer, canonical, bound}
 use Rattle.type_terms.specs.Promised.Proofs.{HasProof}
 use Rattle.type_terms.specs.Promised.Erased.{erased_reference}
@@ -12,7 +12,7 @@ use Rattle.type_terms.proofs.Made.{right, false-true}
 use Rattle.infer_table.specs.Canonical.{GoalTrees}
 use Rattle.infer_table.specs.Certainties.{is_certain}
 use Rattle.infer_table.specs.Responses.{AnswerTrees}
-use Rattle.infer_table.specs.Content.{content}
+use Rattle.infer_table.specs.Content.{Table, Ready, content}
 use Rattle.infer_table.specs.Solutions.{AllValued, Binding, HasValues, replace, resolved}
 use Rattle.infer_table.specs.Unification.{table_trees}
 use Rattle.infer_table.proofs.ContentFacts.{valued}
@@ -31,13 +31,14 @@ use Rattle.view_lowering.specs.Promised.Questions.{variable_kinds}
 use Rattle.view_lowering.specs.Promised.Questions.{IsQuestion}
 use Rattle.candidate_assembly.specs.Solving.{Solving}
 use Rattle.candidate_assembly.specs.SolverMeaning.{solver_by_view}
-use Rattle.sessions.specs.Answers.{IsRightOf}
-use Rattle.sessions.specs.Decided.{IsAnsweredRightly}
+use Rattle.sessions.specs.Answers.{IsRightOf, TellsProof}
+use Rattle.sessions.specs.Decided.{IsAnsweredRightly, IsAnsweredExactly}
 use Rattle.sessions.specs.DecidedAnswers.{OtherAnswersAreRight}
 use Rattle.sessions.specs.Fitting.{sorts_in}
 use Rattle.sessions.specs.Goals.{goal_of, is_fixed, are_fixed}
-use Rattle.sessions.specs.Promised.Promises.{view_in}
+use Rattle.sessions.specs.Promised.Promises.{EndsWithin, HasFewRules, view_in}
 use Rattle.sessions.specs.Foreign.{is_unknown_term}
+use Rattle.sessions.proofs.Unsolved.{unsolved}
 use Rattle.sessions.specs.Proving.{is_bound_term, goal_asking, IsAnsweredBySolver, IsRefusedGoal, IsUnsettledGoal}
 use Rattle.sessions.specs.declared.answers.ProveAnswer.TheVariants.{Maybe}
 use Rattle.type_terms.specs.Promised.Handles.{Entry}
@@ -46,7 +47,7 @@ use Rattle.sessions.specs.Sessions.{IsSolvingOf}
 use Rattle.sessions.specs.Promised.Subjects.{IsOfText}
 use Rattle.sessions.specs.Tables.{table_of}
 use Rattle.sessions.proofs.BareAnswers.{bare-is-left}
-use Rattle.sessions.proofs.DecidedAnswers.{decided-are-answered, asked-is, clauses-are, formed-so, single}
+use Rattle.sessions.proofs.DecidedAnswers.{decided-are-answered, short-are-answered, formed-so, as-asked, as-written}
 use Rattle.sessions.proofs.OpaqueTerms.{node}
 use Rattle.sessions.proofs.ExactRefusals.{not-so}
 
@@ -101,7 +102,26 @@ yes-is-bare a y = not-so (has_values a) (right (is_certain a.certainty) (not (ha
 some-none : (a : AnswerTrees) → Some a ≡ None → ⊥
 some-none a e = cc
 
--- ---- a reference under where-clauses, asked over the table of unknowns of these kinds
+-- ---- a reference under where-clauses
+module _ (d : Declarations) (c : ℕ) (s : Solving) (of : IsSolvingOf d c s) (E : List Reference) (r : Reference)
+    (formed : IsFormedAsWritten (written of.entries of.declarations) (sorts_in of.declarations) E r) where
+  abbrev goal_so : GoalTrees
+  goal_so = goal_of (elaborate s.view E) r
+
+  -- no type and no constant that it asks about is unknown or bound
+  pub asked-fixed : are_fixed r.args ≡ true
+  asked-fixed = (formed.asked [] refl (λ x t i j. absurd (in-nothing x i))).terms
+
+  goal-fixed : EachLabel IsFixed goal_so.predicate
+  goal-fixed = (λ o. absurd (false-true o), made-labels is_fixed terms r.args asked-fixed, tt)
+
+  -- no table gives values with which something bound occurs
+  none-bound-there : ((es : List Entry) × (t : Table) × Ready es t × (some_node is_bound_term (resolved (content es t.values) goal_so.predicate) ≡ true)) → ⊥
+  none-bound-there h =
+      let stays = resolved-stays (content h.0 h.1.values) (valued h.0 h.1.values) goal_so.predicate goal-fixed in
+      false-true (sym (ap (some_node is_bound_term) stays ∙ none-bound goal_so.predicate goal-fixed) ∙ h.3)
+
+-- ---- asked over the table of unknowns of these kinds
 module _ (d : Declarations) (text : IsOfText d) (c : ℕ) (s : Solving) (of : IsSolvingOf d c s) (E : List Reference) (r : Reference)
     (formed : IsFormedAsWritten (written of.entries of.declarations) (sorts_in of.declarations) E r) (ks : List Sort) (depth : ℕ)
     (single : SingleWay depth (view_in d c) (map erased_reference E) (erased_reference r)) where
@@ -127,13 +147,6 @@ module _ (d : Declarations) (text : IsOfText d) (c : ℕ) (s : Solving) (of : Is
       by (Some a) left (inl x) = bare-is-left (table_trees [] (table_of ks)) refl goal a (yes-is-bare a x.1) left
       by None left (inl x) = x.1
 
-  -- no type and no constant that it asks about is unknown or bound
-  asked-fixed : are_fixed r.args ≡ true
-  asked-fixed = (formed.asked [] refl (λ x t i j. absurd (in-nothing x i))).terms
-
-  goal-fixed : EachLabel IsFixed goal.predicate
-  goal-fixed = (λ o. absurd (false-true o), made-labels is_fixed terms r.args asked-fixed, tt)
-
   pub never-unsettled : IsUnsettledGoal solver_by_view s depth goal → ⊥
   never-unsettled (inl h) = answered.plainly h
   never-unsettled (inr (inl h)) = by (answered.found (Some h.0) h.1)
@@ -141,13 +154,38 @@ module _ (d : Declarations) (text : IsOfText d) (c : ℕ) (s : Solving) (of : Is
       by : IsRightOf V own (erased_reference r) (Some h.0) → ⊥
       by (inl x) = false-true (sym h.2 ∙ x.1)
       by (inr x) = some-none h.0 x.1
-  never-unsettled (inr (inr h)) =
-      let stays = resolved-stays (content h.0 h.1.values) (valued h.0 h.1.values) goal.predicate goal-fixed in
-      false-true (sym (ap (some_node is_bound_term) stays ∙ none-bound goal.predicate goal-fixed) ∙ h.3)
+  never-unsettled (inr (inr h)) = none-bound-there d c s of E r formed h
+
+-- ---- of short chains
+module _ (d : Declarations) (text : IsOfText d) (c : ℕ) (s : Solving) (of : IsSolvingOf d c s) (E : List Reference) (r : Reference)
+    (formed : IsFormedAsWritten (written of.entries of.declarations) (sorts_in of.declarations) E r) (ks : List Sort) (depth : ℕ)
+    (short : EndsWithin depth (view_in d c) (map erased_reference E) (erased_reference r)) where
+  abbrev Proved : Type 0
+  Proved = HasProof (view_in d c) (map erased_reference E) (erased_reference r)
+
+  abbrev goal_then : GoalTrees
+  goal_then = goal_of (elaborate s.view E) r
+
+  exact : IsAnsweredExactly s depth (view_in d c) E r
+  exact = short-are-answered d text c s of E r formed depth short
+
+  -- a refusal has no proof
+  refused-exactly : IsRefusedGoal solver_by_view s depth ks goal_then → Proved → ⊥
+  refused-exactly h = by h.0 h.2 (exact.found h.0 h.1)
+    where
+      by : (a : Option AnswerTrees) → left_by (table_trees [] (table_of ks)) goal_then a ≡ None → TellsProof Proved a → Proved → ⊥
+      by None left told = told
+      by (Some a) left told = λ p. bare-is-left (table_trees [] (table_of ks)) refl goal_then a told.1 left
+
+  -- what is not settled has a proof, and more than one rule at some step
+  unsettled-exactly : IsUnsettledGoal solver_by_view s depth goal_then → Proved × (HasFewRules depth (view_in d c) (map erased_reference E) (erased_reference r) → ⊥)
+  unsettled-exactly (inl h) = absurd (exact.plainly h)
+  unsettled-exactly (inr (inl h)) = ((exact.found (Some h.0) h.1).0, λ few. false-true (sym h.2 ∙ exact.sure few h.0 h.1))
+  unsettled-exactly (inr (inr h)) = absurd (none-bound-there d c s of E r formed h)
 
 -- ---- questions
 module _ (d : Declarations) (text : IsOfText d) (n : ℕ) (q : Question) (is : IsQuestion d n q) (s : Solving) (of : IsSolvingOf d q.asker s) (depth : ℕ)
-    (decided : IsUnambiguous depth (view_in d q.asker) (map erased_reference q.clauses) (erased_reference q.asked)) where
+    (closed : IsTrue (not (some_node is_variable (erased_reference q.asked).args))) where
   abbrev ks : List Sort
   ks = variable_kinds q
 
@@ -157,31 +195,50 @@ module _ (d : Declarations) (text : IsOfText d) (n : ℕ) (q : Question) (is : I
   abbrev r : Reference
   r = unbound_reference q.asked
 
-  -- a proof of what is asked is one of its terms without binders
-  proof-there : HasProof (view_in d q.asker) (map erased_reference q.clauses) (erased_reference q.asked) → HasProof (view_in d q.asker) (map erased_reference E) (erased_reference r)
-  proof-there p =
-      subst (λ F. HasProof (view_in d q.asker) F (erased_reference r)) (sym (clauses-are d text n q is s of depth decided))
-      (subst (λ x. HasProof (view_in d q.asker) (map erased_reference q.clauses) x) (sym (asked-is d text n q is s of depth decided)) p)
+  abbrev seen_by : World
+  seen_by = view_in d q.asker
 
-  unproved : IsRefusedGoal solver_by_view s depth ks (goal_asking s.view q)
-      → HasProof (view_in d q.asker) (map erased_reference q.clauses) (erased_reference q.asked) → ⊥
-  unproved h p = refused-unproved d text q.asker s of E r (formed-so d text n q is s of depth decided) ks depth (single d text n q is s of depth decided) h (proof-there p)
+  formed : IsFormedAsWritten (written of.entries of.declarations) (sorts_in of.declarations) E r
+  formed = formed-so d text n q is s of closed
 
-  never : IsUnsettledGoal solver_by_view s depth (goal_asking s.view q) → ⊥
-  never h = never-unsettled d text q.asker s of E r (formed-so d text n q is s of depth decided) ks depth (single d text n q is s of depth decided) h
+  -- of its terms without binders, and back
+  there : (P : List Reference → Reference → Type 0) → P (map erased_reference q.clauses) (erased_reference q.asked) → P (map erased_reference E) (erased_reference r)
+  there P h = as-asked d text n q is s of closed P h
+
+  back : (P : List Reference → Reference → Type 0) → P (map erased_reference E) (erased_reference r) → P (map erased_reference q.clauses) (erased_reference q.asked)
+  back P h = as-written d text n q is s of closed P h
+
+  unproved : SingleWay depth seen_by (map erased_reference q.clauses) (erased_reference q.asked) → IsRefusedGoal solver_by_view s depth ks (goal_asking s.view q)
+      → HasProof seen_by (map erased_reference q.clauses) (erased_reference q.asked) → ⊥
+  unproved single h p = refused-unproved d text q.asker s of E r formed ks depth (there (λ F x. SingleWay depth seen_by F x) single) h (there (λ F x. HasProof seen_by F x) p)
+
+  unproved-exactly : EndsWithin depth seen_by (map erased_reference q.clauses) (erased_reference q.asked) → IsRefusedGoal solver_by_view s depth ks (goal_asking s.view q)
+      → HasProof seen_by (map erased_reference q.clauses) (erased_reference q.asked) → ⊥
+  unproved-exactly short h p = refused-exactly d text q.asker s of E r formed ks depth (there (λ F x. EndsWithin depth seen_by F x) short) h (there (λ F x. HasProof seen_by F x) p)
 
   -- nothing that it asks about is unknown, so no value is foreign
   known : some_node is_unknown_term r.args ≡ false
-  known =
-      none-unknown r.args
-      (made-labels is_fixed terms r.args (asked-fixed d text q.asker s of E r (formed-so d text n q is s of depth decided) ks depth (single d text n q is s of depth decided)))
+  known = none-unknown r.args (made-labels is_fixed terms r.args (asked-fixed d q.asker s of E r formed))
 
-  never-maybe : (es : List Entry) → IsAnsweredBySolver s depth q es Maybe → ⊥
-  never-maybe es (inl h) = never h
-  never-maybe es (inr h) = false-true (sym known ∙ h.unknowns)
+  never-maybe : SingleWay depth seen_by (map erased_reference q.clauses) (erased_reference q.asked) → (es : List Entry) → IsAnsweredBySolver s depth q es Maybe → ⊥
+  never-maybe single es (inl h) = never-unsettled d text q.asker s of E r formed ks depth (there (λ F x. SingleWay depth seen_by F x) single) h
+  never-maybe single es (inr h) = false-true (sym known ∙ h.unknowns)
+
+  maybe-exactly : EndsWithin depth seen_by (map erased_reference q.clauses) (erased_reference q.asked) → (es : List Entry) → IsAnsweredBySolver s depth q es Maybe
+      → HasProof seen_by (map erased_reference q.clauses) (erased_reference q.asked) × (HasFewRules depth seen_by (map erased_reference q.clauses) (erased_reference q.asked) → ⊥)
+  maybe-exactly short es (inl h) =
+      let x = unsettled-exactly d text q.asker s of E r formed ks depth (there (λ F y. EndsWithin depth seen_by F y) short) h in
+      (back (λ F y. HasProof seen_by F y) x.0, λ few. x.1 (there (λ F y. HasFewRules depth seen_by F y) few))
+  maybe-exactly short es (inr h) = absurd (false-true (sym known ∙ h.unknowns))
 
 pub other-answers-are-right : OtherAnswersAreRight
 other-answers-are-right d text n q is s of depth es = (
-  λ h. (λ decided proof. unproved d text n q is s of depth decided h proof, tt, tt),
-  λ h. (λ decided. never-maybe d text n q is s of depth decided es h, tt, tt),
+  λ h. (
+    λ decided proof. unproved d text n q is s of depth decided.0 decided.1 h proof,
+    tt,
+    tt,
+    λ bare alone sol. unsolved d text n q is s of depth h bare alone sol,
+    λ closed short proof. unproved-exactly d text n q is s of depth closed short h proof,
+  ),
+  λ h. (λ decided. never-maybe d text n q is s of depth decided.0 decided.1 es h, tt, tt, tt, λ closed short. maybe-exactly d text n q is s of depth closed short es h),
 )

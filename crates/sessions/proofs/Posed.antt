@@ -43,11 +43,42 @@ module _ (ks : List Sort) where
     known (tree (infer of_lifetime i) c o) h = absurd (no-true (first-fine (infer of_lifetime i) c o h))
     known (tree l c o) h = (known c (child-shut (is_undeclared_variable ks) l c o h), known o (next-shut (is_undeclared_variable ks) l c o h))
 
-  -- ---- no parameter is a variable of the form
+-- ---- no parameter is a variable of the form
+-- where no label is so, and no other is a parameter
+module _ (bad : Label → Bool)
+    (fine : (l : Label) (ls : List Label) → bad l ≡ false → has_placeholder (kinds_known (map kind_of_leaf ls)) ≡ false → has_placeholder (kinds_known (kind_of_leaf l ∷ map kind_of_leaf ls)) ≡ false) where
   abbrev AllFine : List Label → Type 0
   AllFine [] = Unit {0}
-  AllFine (l ∷ ls) = (is_undeclared_variable ks l ≡ false) × AllFine ls
+  AllFine (l ∷ ls) = (bad l ≡ false) × AllFine ls
 
+  kinds-fine : (ls : List Label) → AllFine ls → has_placeholder (kinds_known (map kind_of_leaf ls)) ≡ false
+  kinds-fine [] h = refl
+  kinds-fine (l ∷ ls) h = fine l ls h.0 (kinds-fine ls h.1)
+
+  behind-fine : (ls : List Label) (l : Label) → AllFine ls → bad l ≡ false → AllFine (ls ++ l ∷ [])
+  behind-fine [] l a h = (h, tt)
+  behind-fine (m ∷ ls) l a h = (a.0, behind-fine ls l a.1 h)
+
+  with-fine : (l : Label) (seen : List Label) → bad l ≡ false → AllFine seen → AllFine (with_label l seen)
+  with-fine l seen h a = by (is_label_among l seen)
+    where
+      by : (b : Bool) → AllFine (if b then seen else seen ++ l ∷ [])
+      by true = a
+      by false = behind-fine seen l a h
+
+  leaves-fine : (t : Trees) → some_node bad t ≡ false → (seen : List Label) → AllFine seen → AllFine (leaves kind_of_leaf seen t)
+  leaves-fine none h seen a = a
+  leaves-fine (tree l c o) h seen a = leaves-fine o (next-shut bad l c o h) _ (leaves-fine c (child-shut bad l c o h) _ (by (is_some (kind_of_leaf l))))
+    where
+      by : (b : Bool) → AllFine (if b then with_label l seen else seen)
+      by true = with-fine l seen (no-left (bad l) (some_node bad c) (no-left (bad l || some_node bad c) (some_node bad o) h)) a
+      by false = a
+
+  pub no-places : (r : Reference) → some_node bad r.args ≡ false → has_placeholder (kinds_known (canonical_form (goal_alone r)).kinds) ≡ false
+  no-places r h = kinds-fine (leaves kind_of_leaf [] r.args) (leaves-fine r.args h [] tt)
+
+-- a query has variables alone
+module _ (ks : List Sort) where
   one-fine : (l : Label) (ls : List Label) → is_undeclared_variable ks l ≡ false → has_placeholder (kinds_known (map kind_of_leaf ls)) ≡ false → has_placeholder (kinds_known (kind_of_leaf l ∷ map kind_of_leaf ls)) ≡ false
   one-fine (infer of_type i) ls h e = e
   one-fine (infer of_const i) ls h e = e
@@ -61,29 +92,5 @@ module _ (ks : List Sort) where
   one-fine static ls h e = e
   one-fine l ls h e = e
 
-  kinds-fine : (ls : List Label) → AllFine ls → has_placeholder (kinds_known (map kind_of_leaf ls)) ≡ false
-  kinds-fine [] h = refl
-  kinds-fine (l ∷ ls) h = one-fine l ls h.0 (kinds-fine ls h.1)
-
-  behind-fine : (ls : List Label) (l : Label) → AllFine ls → is_undeclared_variable ks l ≡ false → AllFine (ls ++ l ∷ [])
-  behind-fine [] l a h = (h, tt)
-  behind-fine (m ∷ ls) l a h = (a.0, behind-fine ls l a.1 h)
-
-  with-fine : (l : Label) (seen : List Label) → is_undeclared_variable ks l ≡ false → AllFine seen → AllFine (with_label l seen)
-  with-fine l seen h a = by (is_label_among l seen)
-    where
-      by : (b : Bool) → AllFine (if b then seen else seen ++ l ∷ [])
-      by true = a
-      by false = behind-fine seen l a h
-
-  leaves-fine : (t : Trees) → NoStray t → (seen : List Label) → AllFine seen → AllFine (leaves kind_of_leaf seen t)
-  leaves-fine none h seen a = a
-  leaves-fine (tree l c o) h seen a =
-      leaves-fine o (next-shut (is_undeclared_variable ks) l c o h) _ (leaves-fine c (child-shut (is_undeclared_variable ks) l c o h) _ (by (is_some (kind_of_leaf l))))
-    where
-      by : (b : Bool) → AllFine (if b then with_label l seen else seen)
-      by true = with-fine l seen (first-fine l c o h) a
-      by false = a
-
-  pub no-placeholders : (r : Reference) → NoStray r.args → has_placeholder (kinds_known (canonical_form (goal_alone r)).kinds) ≡ false
-  no-placeholders r h = kinds-fine (leaves kind_of_leaf [] r.args) (leaves-fine r.args h [] tt)
+  pub no-placeholders : (r : Reference) → some_node (is_undeclared_variable ks) r.args ≡ false → has_placeholder (kinds_known (canonical_form (goal_alone r)).kinds) ≡ false
+  no-placeholders r h = no-places (is_undeclared_variable ks) one-fine r h

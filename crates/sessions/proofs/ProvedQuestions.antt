@@ -119,7 +119,7 @@ proper (tree (infer k v) c o) h = (h.0 refl, proper o h.2)
 proper (tree l c o) h = (proper c h.1, proper o h.2)
 
 -- ---- what is asked for
-clean-own : (ks : List Sort) (t : Trees) → AllGood (is_own ks) t → HasNoCanonical t
+pub clean-own : (ks : List Sort) (t : Trees) → AllGood (is_own ks) t → HasNoCanonical t
 clean-own ks none h = tt
 clean-own ks (tree (canonical k i) c o) h = absurd (false-true h.0)
 clean-own ks (tree l c o) h = (clean-own ks c h.1, clean-own ks o h.2)
@@ -132,7 +132,7 @@ same-count s (k ∷ ks) = by (is_sort k s) (same-count s ks)
     by true e = ap suc e
     by false e = e
 
-known : (ks : List Sort) (t : Trees) → AllGood (is_own ks) t → AreKnown (λ s. count_of s ks) t
+pub known : (ks : List Sort) (t : Trees) → AllGood (is_own ks) t → AreKnown (λ s. count_of s ks) t
 known ks none h = tt
 known ks (tree (infer s i) c o) h = (subst (λ n. i < n) (same-count s ks) (so-below i (number_of s ks) h.0), known ks c h.1, known ks o h.2)
 known ks (tree l c o) h = (known ks c h.1, known ks o h.2)
@@ -398,7 +398,7 @@ module _ (d : Declarations) (text : IsOfText d) (c : ℕ) (items : List Entry) (
 
 -- ---- of unknowns of these kinds
 module _ (ks : List Sort) (E : List Reference) (r : Reference) (own : is_made (is_own ks) terms r.args ≡ true) where
-  good : AllGood (is_own ks) r.args
+  pub good : AllGood (is_own ks) r.args
   good = all-good (is_own ks) refl (λ m t. refl) (λ t. refl) terms r.args own
 
   proper-args : IsProper r.args
@@ -475,6 +475,8 @@ module _ (d : Declarations) (text : IsOfText d) (n : ℕ) (q : Question) (is : I
         as-asked (λ F x. AreForced (view_in d q.asker) kinds F x (answer_in es (Yes values)))
             (yes-forced d text q.asker of.entries of.declarations of.seen kinds E asked each clean (proper-args kinds E asked own)
             (asked-with kinds E asked own (elaborate W E)) (asked-closed kinds E asked own (elaborate W E)) depth es values searched),
+        tt,
+        tt,
       )
 
 pub yes-is-right : YesIsRight

@@ -51,7 +51,7 @@ pub plain-erased : (t : Trees) → erase (plain all_kept t) ≡ erase t
 plain-erased none = refl
 plain-erased (tree l c o) = node (label-erased l) (plain-erased c) (plain-erased o)
 
-same-args : (t : ℕ) (x y : Trees) → x ≡ y → (let r : Reference = record { trait = t; args = x } in r) ≡ record { trait = t; args = y }
+pub same-args : (t : ℕ) (x y : Trees) → x ≡ y → (let r : Reference = record { trait = t; args = x } in r) ≡ record { trait = t; args = y }
 same-args t x y e = cc
 
 module _ (applicable : AnswerTrees → Bool) (same : AnswerTrees → AnswerTrees → Bool) (d : Declarations) (q : Question) (own : HasVariablesAlone q) where

@@ -8,7 +8,7 @@ use Rattle.type_terms.specs.Promised.Supers.{no_param, mentions_as, dyns_of_boun
 use Rattle.type_terms.specs.Promised.Proofs.{In}
 use Rattle.type_terms.specs.Promised.Walks.{struct_is, keeps_orphan_rule}
 use Rattle.type_terms.specs.Promised.Versions.{sees_struct, sees_trait, in_scope}
-use Rattle.type_terms.specs.Promised.LinkedSet.{AutoAtHome, is_stray}
+use Rattle.type_terms.specs.Promised.LinkedSet.{AutoAtHome, is_stray, IsPlainTerm}
 use Rattle.type_terms.specs.Promised.Renumbering.{Renumbering, View, IsRenumbering, view_before, asker_in_set, renumbered_label, renumbered, renumbered_reference, renumbered_struct, renumbered_trait, renumbered_impl}
 use Rattle.type_terms.proofs.Members.{in-filter, filter-in, in-map, some-member, member-some, same-number, self-number}
 use Rattle.type_terms.proofs.Walking.{left, right, both}
@@ -19,7 +19,7 @@ use Rattle.type_terms.proofs.RenumberedRules.{or-same}
 use Rattle.type_terms.proofs.RenumberedAnswers.{keeps-same}
 use Rattle.type_terms.proofs.AddedByView.{written-over, keeps-in-set}
 use Rattle.type_terms.proofs.Unseen.{OneEach}
-use Rattle.sessions.specs.JoinedSets.{IsPlainTerm, StructObeys, TraitObeys, ImplObeys}
+use Rattle.type_terms.proofs.JoinedParts.{StructObeys, TraitObeys, ImplObeys}
 
 -- ---- trees
 module _ (ρ : Renumbering) where

@@ -1,11 +1,10 @@
 -- What sessions leave, and sessions that begin on it.
-use Rattle.std.proofs.Common.{◌≡◌, ◌≤◌, ℕ, Bool, true, false, List, [], ◌∷◌, refl, sym, ap, ◌∙◌, subst, arith}
+use Rattle.std.proofs.Common.{◌≡◌, ◌≤◌, ℕ, Bool, true, false, List, [], ◌∷◌, sym, ap, ◌∙◌, subst, arith}
 use Rattle.std.proofs.lemmas.List.Sums.{sum_by-cons}
 use Rattle.std.specs.Prelude.{if◌then◌else◌, sum_by}
 use Rattle.type_terms.specs.Promised.Handles.{Entry}
 use Rattle.type_terms.specs.Terms.{Terms}
 use Rattle.type_terms.specs.Promised.Worlds.{sees}
-use Rattle.type_terms.specs.declared.CrateId.{CrateId}
 use Rattle.search_graph.specs.SearchState.{SearchState}
 use Rattle.declarations.specs.Items.{Items}
 use Rattle.text_language.specs.Promised.Declarations.{Declarations, NamedStruct, NamedTrait, NamedImpl, world_of}
@@ -15,7 +14,6 @@ use Rattle.goal_frames.specs.Stores.{limit_of}
 use Rattle.solver_graph.specs.Contexts.{IsReady as IsReadyContext}
 use Rattle.solver_graph.specs.declared.context.SolverCx.{SolverCx}
 use Rattle.candidate_assembly.specs.Ready.{AreReadyDeclarations}
-use Rattle.candidate_assembly.specs.Solving.{Solving}
 use Rattle.candidate_assembly.specs.declared.solver.Solver.{Solver}
 use Rattle.sessions.specs.declared.seen_view.SeenView.{SeenView}
 use Rattle.sessions.specs.Resting.{Cached}
@@ -49,36 +47,13 @@ new-are-fewer d c e =
     let impls = rest-fewer (λ (i : NamedImpl). sees (world_of d) c i.item.home) (λ i. sees (world_of d) e i.item.home) (impl_terms_seen d c) d.impls in
     omega (arith, structs, traits, impls)
 
--- ---- what a session leaves is what its crate sees
-pub view-left : (d : Declarations) (id : CrateId) (depth handles : ℕ) (cx : SolverCx Solver) (graph : SearchState) (cache : Cached) → IsSessionWithin d id.index depth handles cx graph cache
-    → (interner : Terms) (solver : Solver) → interner ≡ cx.interner → solver ≡ cx.handler → (frames : ℕ)
-    → IsViewOf d id.index handles (record { crate_id = id; interner = interner; declarations = solver.declarations; frames = frames })
-view-left d id depth handles cx graph cache is interner solver same by frames =
-    let s = is.session in
-    let view : IsViewOf d id.index handles (record { crate_id = id; interner = cx.interner; declarations = cx.handler.declarations; frames = frames }) = record {
-      crate = refl;
-      seen = record {
-        written = s.view.written;
-        structs = ap (λ (x : Solving). x.sorts.structs) s.solving.is ∙ s.solving.seen.structs;
-        traits = ap (λ (x : Solving). x.sorts.traits) s.solving.is ∙ s.solving.seen.traits;
-        impls = ap (λ (x : Solving). x.sorts.impls) s.solving.is ∙ s.solving.seen.impls;
-      };
-      rules = s.view.rules;
-      local = s.view.local;
-      ready = s.rest.ready.handler;
-      limit = is.limits.terms;
-      declared = s.declared;
-    } in
-    subst (λ (t : Terms). IsViewOf d id.index handles (record { crate_id = id; interner = t; declarations = solver.declarations; frames = frames })) (sym same)
-    (subst (λ (h : Solver). IsViewOf d id.index handles (record { crate_id = id; interner = cx.interner; declarations = h.declarations; frames = frames })) (sym by) view)
-
 -- ---- a session begins on it
 pub ready-by : (es fs : List Entry) (x y : Items) → fs ≡ es → y ≡ x → AreReadyDeclarations es x → AreReadyDeclarations fs y
 ready-by es fs x y terms by r = subst (λ z. AreReadyDeclarations z y) (sym terms) (subst (AreReadyDeclarations es) (sym by) r)
 
 pub session-on : (d : Declarations) (depth handles : ℕ) (view : SeenView) → IsOfText d → IsViewOf d view.crate_id.index handles view → (cx : SolverCx Solver) → cx.interner ≡ view.interner → cx.handler.declarations ≡ view.declarations
     → IsReadyContext (λ (h : Solver) es. AreReadyDeclarations es h.declarations) cx → limit_of cx.store ≡ handles
-    → (graph : SearchState) (cache : Cached) → graph ≡ record { root_depth = depth; current_depth = 0; frames = 0; limits_met = false } → cache ≡ [] → IsSessionWithin d view.crate_id.index depth handles cx graph cache
+    → (graph : SearchState) (cache : Cached) → graph ≡ record { root_depth = depth; current_depth = 0; frames = 0; limits_met = false; spent = 0 } → cache ≡ [] → IsSessionWithin d view.crate_id.index depth handles cx graph cache
 session-on d depth handles view text is cx same by ready kept graph cache begun none =
     let c = view.crate_id.index in
     let es = view.interner.entries in

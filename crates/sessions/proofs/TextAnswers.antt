@@ -1,13 +1,15 @@
 -- The solver answers questions without unknowns exactly, by what a crate sees of a text.
-use Rattle.std.proofs.Common.{◌≡◌, ◌≤◌, ℕ, zero, suc, true, if◌then◌else◌, List, [], ◌∷◌, ◌++◌, map, length, Option, Ok, inl, inr, refl, sym, ◌∙◌, ap, subst}
-use Rattle.std.specs.List.{list_any, flat_map}
+use Rattle.std.proofs.Common.{◌≡◌, ◌≤◌, ℕ, zero, suc, Bool, true, false, ◌||◌, if◌then◌else◌, List, [], ◌∷◌, ◌++◌, map, length, Option, Some, None, Ok, inl, inr, refl, sym, ◌∙◌, ap, subst}
+use Rattle.std.specs.List.{list_any}
 use Rattle.type_terms.specs.Promised.Answers.{SingleWay, is_bounded}
-use Rattle.type_terms.specs.Promised.Label.{of_type, of_const, of_lifetime}
+use Rattle.type_terms.specs.Promised.Label.{Label, of_type, of_const, of_lifetime, static, fn_ptr, principal, param, placeholder, infer, canonical, bound}
 use Rattle.type_terms.specs.Promised.Erased.{erased_reference}
-use Rattle.type_terms.specs.Promised.Trees.{none}
+use Rattle.type_terms.specs.Promised.Trees.{Trees, none, tree, erase, erase_label, some_node}
+use Rattle.type_terms.proofs.Fitting.{same-reference-sound}
+use Rattle.type_terms.proofs.TermBasics.{same-references}
 use Rattle.type_terms.specs.Promised.Worlds.{World, CrateDecl, Reference}
 use Rattle.type_terms.specs.Promised.Proofs.{In, HasProof}
-use Rattle.type_terms.specs.Promised.Rules.{Rule, by_clause, rules, impl_rules, built_in_rules, clause_rules, super_rules, same_reference, written_supertraits, strict_supertraits, strict_supertraits_within, elaborated}
+use Rattle.type_terms.specs.Promised.Rules.{by_clause, rules, clause_rules, super_rules, same_reference, written_supertraits, strict_supertraits, strict_supertraits_within, elaborated}
 use Rattle.type_terms.proofs.Supertraits.{flat-same}
 use Rattle.type_terms.proofs.ProofEntries.{map-in}
 use Rattle.type_terms.proofs.Members.{here, in-map, flat-in}
@@ -19,6 +21,7 @@ use Rattle.infer_table.specs.declared.certainty.TypingMode.{TypingMode}
 use Rattle.infer_table.specs.declared.certainty.TypingMode.TheVariants.{Coherence, PostAnalysis}
 use Rattle.goal_evaluator.specs.Content.{Values, NestedQuestion, Fact, fact_of}
 use Rattle.goal_evaluator.specs.Instances.{default_label}
+use Rattle.goal_evaluator.specs.Law.{IsYes}
 use Rattle.goal_evaluator.specs.Tables.{frame_tables}
 use Rattle.goal_frames.specs.Handlers.{same_answer, applies_always}
 use Rattle.goal_frames.specs.Programs.{ArePrograms}
@@ -47,21 +50,24 @@ use Rattle.solver_completeness.specs.SolverAnswers.{solver_programs, TellsPossib
 use Rattle.solver_completeness.specs.SolverChoices.{IsElaborated}
 use Rattle.solver_completeness.specs.SolverWays.{facts_beside, premises_of}
 use Rattle.solver_completeness.specs.UnboundGoals.{is_unbound}
-use Rattle.solver_completeness.specs.Ways.{HasOneWayWithin}
+use Rattle.solver_completeness.specs.RowWays.{clause_ways}
+use Rattle.solver_completeness.specs.Ways.{HasShortChains, HasOneWayWithin}
+use Rattle.solver_completeness.proofs.FewWays.{HasFewWaysWithin}
 use Rattle.solver_completeness.proofs.FormedAnswers.{formed-searches-are-right, formed-tells-possible}
 use Rattle.solver_completeness.proofs.ModelWays.{single_way_is_decided}
 use Rattle.solver_completeness.proofs.Once.{elaborated-once}
-use Rattle.solver_completeness.proofs.Selecting.{hits, hits-map}
+use Rattle.solver_completeness.proofs.Selecting.{hits, hits-map, once-hit}
 use Rattle.solver_completeness.proofs.UnboundGoals.{unbound-are-admitted}
-use Rattle.sessions.specs.Answers.{solver_goals, IsOnlyAnswer, IsRightOf, AreAnsweredRight, AreAnsweredAsWritten, AreToldPossible}
+use Rattle.sessions.specs.Promised.Promises.{EndsWithin, HasFewRules, has_lifetimes}
+use Rattle.sessions.specs.Answers.{solver_goals, IsOnlyAnswer, IsRightOf, TellsProof, AreAnsweredRight, AreAnsweredAsWritten, AreToldPossible}
 use Rattle.sessions.specs.Clauses.{AddSupertraits}
 use Rattle.sessions.specs.Fitting.{sorts_in, fits_in}
 use Rattle.sessions.specs.Goals.{goal_of, are_fixed, IsFormedQuestion, AsksUnderClauses}
 use Rattle.sessions.specs.Questions.{IsFormedAsWritten}
 use Rattle.sessions.proofs.AskedGoals.{formed-question}
 use Rattle.sessions.proofs.Clauses.{supertraits-prove-no-more}
-use Rattle.sessions.proofs.DirectRules.{own_rules, direct_clauses, direct_under, direct_ways, others, direct-split, direct-decided, decided-directly, hits-fewer}
-use Rattle.sessions.proofs.DirectWays.{directly-right}
+use Rattle.sessions.proofs.DirectRules.{own_rules, direct_clauses, direct_under, direct_ways, others, others_under, other_ways, direct-split, without-clauses, direct-decided, decided-directly, direct-short, short-directly, direct-few, few-directly, hits-fewer}
+use Rattle.sessions.proofs.DirectWays.{directly-right, directly-exact, directly-sure}
 use Rattle.sessions.proofs.ElaboratedClauses.{IsFormedClause, elaborated-formed, elaborated-closed, all-are-fixed, levels-erased}
 use Rattle.sessions.proofs.Fitting.{sorts-tell}
 use Rattle.sessions.proofs.FormedViews.{texts-views-are-formed}
@@ -85,6 +91,33 @@ unfolding some-terms
 are-sorted of_type v = refl
 are-sorted of_const v = refl
 are-sorted of_lifetime v = refl
+
+-- ---- terms without lifetimes
+label-stays : (l : Label) → has_lifetimes (erase_label l) ≡ false → erase_label l ≡ l
+label-stays static e = refl
+label-stays (fn_ptr n) e = absurd (cc)
+label-stays (principal n t) e = absurd (cc)
+label-stays (param of_lifetime i) e = absurd (cc)
+label-stays (placeholder of_lifetime i) e = absurd (cc)
+label-stays (infer of_lifetime i) e = absurd (cc)
+label-stays (canonical of_lifetime i) e = absurd (cc)
+label-stays (bound of_lifetime i j) e = absurd (cc)
+label-stays l e = refl
+
+erased-stays : (t : Trees) → some_node has_lifetimes (erase t) ≡ false → erase t ≡ t
+erased-stays none e = refl
+erased-stays (tree l c o) e =
+    let x = neither (has_lifetimes (erase_label l) || some_node has_lifetimes (erase c)) (some_node has_lifetimes (erase o)) e in
+    let y = neither (has_lifetimes (erase_label l)) (some_node has_lifetimes (erase c)) x.0 in
+    same-tree (label-stays l y.0) (erased-stays c y.1) (erased-stays o x.1)
+  where
+    neither : (a b : Bool) → (a || b) ≡ false → (a ≡ false) × (b ≡ false)
+    neither false false e = (refl, refl)
+    neither true b e = absurd (cc)
+    neither false true e = absurd (cc)
+
+    same-tree : {l m : Label} {c d o p : Trees} → l ≡ m → c ≡ d → o ≡ p → tree l c o ≡ tree m d p
+    same-tree e f g = cc
 
 moved : (P : List Reference → Reference → Type 0) (E F : List Reference) (r s : Reference) → E ≡ F → r ≡ s → P E r → P F s
 moved P E F r s e f h = subst (λ z. P z s) e (subst (P E) f h)
@@ -198,6 +231,17 @@ module _ {C I R F : Type 0} (handles : Handles C I R F Solving (GoalInMode frame
           (subst (λ n. hits (λ s. is (erased_reference s)) all ≤ n) (sym (hits-map is erased_reference (elaborated V E)))
           (hits-fewer all (elaborated V E) (elaborated-once V E) all-levels (λ s. is (erased_reference s)))))
 
+      -- where-clauses without lifetimes stand once
+      lone : (x : Reference) → some_node has_lifetimes x.args ≡ false → hits (λ s. same_reference s x) more ≤ 1
+      lone x e =
+          subst (λ n. n ≤ 1) (sym (hits-map (λ s. same_reference s x) erased_reference all))
+          (once-hit (λ y. same_reference (erased_reference y) x) all (elaborated-once V E) (λ y z p g. is-it y p ∙ sym (is-it z g)))
+        where
+          is-it : (y : Reference) → same_reference (erased_reference y) x ≡ true → y ≡ x
+          is-it y p =
+              let s = same-reference-sound (erased_reference y) x p in
+              same-references y.trait y.trait y.args (erase y.args) refl (sym (erased-stays y.args (ap (λ (z : Reference). some_node has_lifetimes z.args) s ∙ e))) ∙ s
+
       is-decided : (n : ℕ) → SingleWay n V own (erased_reference r) → HasOneWayWithin (direct_under V more) (HasProof V more) n (erased_reference r)
       is-decided n single = direct-decided V own more closed no-more no-more-clauses n (erased_reference r) (single_way_is_decided V own n (erased_reference r) single)
 
@@ -238,13 +282,6 @@ module _ {C I R F : Type 0} (handles : Handles C I R F Solving (GoalInMode frame
       direct-clauses-same : (r : Reference) (E : List Reference) → direct_clauses U r E ≡ direct_clauses V r E
       direct-clauses-same r E = ap (λ us. if list_any (λ s. same_reference s r) E then own_rules r 0 E else us) (clauses-same r 0 E)
 
-      no-last : (us : List Rule) → us ++ [] ≡ us
-      no-last [] = refl
-      no-last (u ∷ us) = ap (λ z. u ∷ z) (no-last us)
-
-      without-clauses : (X : World) (r : Reference) → rules X [] r ≡ others X r
-      without-clauses X r = ap (λ us. flat_map (impl_rules r) X.impls ++ us) (no-last (built_in_rules X r))
-
       others-same : (r : Reference) → IsFormed V sorts r → others V r ≡ others U r
       others-same r good = sym (without-clauses V r) ∙ sym (rules-same V well begin erased cs [] r good.args.plain) ∙ without-clauses U r
 
@@ -255,6 +292,9 @@ module _ {C I R F : Type 0} (handles : Handles C I R F Solving (GoalInMode frame
 
       ways-same : (g : Fact) → IsFormedFact V sorts g → direct_ways V g ≡ direct_ways U g
       ways-same g h = ap (facts_beside g) (direct-same (clauses_of g.goal.environment) (reference_in g) h.reference)
+
+      others-by-same : (g : Fact) → IsFormedFact V sorts g → other_ways V g ≡ other_ways U g
+      others-by-same g h = ap (λ us. facts_beside g (premises_of us)) (others-same (reference_in g) h.reference)
 
       module _ (E : List Reference) (r : Reference) (q : IsFormedAsWritten V sorts E r) where
         closed-so : IsElaborated U (more E r q)
@@ -292,6 +332,37 @@ module _ {C I R F : Type 0} (handles : Handles C I R F Solving (GoalInMode frame
             (back all r x (λ F s. IsRightOf U F s a)
             (directly-right applies_always same_answer meaning_in fits_in handles programs w sorts is_unbound (declared PostAnalysis) U ways-same n limit (asked all r x) (values all r x) a l (goal all r x).0
             (decided-directly U n (f all r x) (there all r x (λ F s. HasOneWayWithin (direct_under U F) (HasProof U F) n s) (decided-so n single))) only))
+
+        short-so : (n : ℕ) → EndsWithin n U (own E r q) (erased_reference r) → HasShortChains (direct_under U (more E r q)) n (erased_reference r)
+        short-so n short = direct-short U (own E r q) (more E r q) closed-so no-more-so few-so n (erased_reference r) short
+
+        few-rules-so : (n : ℕ) → HasFewRules n U (own E r q) (erased_reference r)
+            → HasFewWaysWithin (direct_under U (more E r q)) (λ p. clause_ways p (more E r q)) (others_under U) (HasProof U (more E r q)) n (erased_reference r)
+        few-rules-so n few = direct-few U (own E r q) (more E r q) closed-so no-more-so few-so (lone E r q) n (erased_reference r) few
+
+        told-so : (a : Option AnswerTrees) → TellsProof (HasProof U (more E r q) (erased_reference r)) a → TellsProof (HasProof U (own E r q) (erased_reference r)) a
+        told-so None never = λ p. never (no-less-so (erased_reference r) p)
+        told-so (Some a) (p, bare) = (no-more-so (erased_reference r) p, bare)
+
+        -- what has short chains is told exactly
+        pub told-by-view : (n limit : ℕ) → n ≤ limit → EndsWithin n U (map erased_reference E) (erased_reference r)
+            → (a : Option AnswerTrees) → IsOnlyAnswer handles (solving_of es decls) PostAnalysis limit (goal_of (elaborate V E) r) a → TellsProof (HasProof U (map erased_reference E) (erased_reference r)) a
+        told-by-view n limit l short a only =
+            let all = elaborate V E in
+            let x = with-all E r q in
+            told-so a
+            (back all r x (λ F s. TellsProof (HasProof U F s) a)
+            (directly-exact applies_always same_answer meaning_in fits_in handles programs w sorts is_unbound (declared PostAnalysis) U ways-same n limit (asked all r x) (values all r x) a l (goal all r x).0
+            (short-directly U n (f all r x) (there all r x (λ F s. HasShortChains (direct_under U F) n s) (short-so n short))) only))
+
+        -- and with few rules at each step a definite yes is given
+        pub sure-by-view : (n limit : ℕ) → n ≤ limit → HasFewRules n U (map erased_reference E) (erased_reference r)
+            → (a : Option AnswerTrees) → IsOnlyAnswer handles (solving_of es decls) PostAnalysis limit (goal_of (elaborate V E) r) a → (x : AnswerTrees) → a ≡ Some x → IsYes frame_tables (Some x)
+        sure-by-view n limit l few a only =
+            let all = elaborate V E in
+            let x = with-all E r q in
+            directly-sure applies_always same_answer meaning_in fits_in handles programs w sorts is_unbound (declared PostAnalysis) U ways-same others-by-same n limit (asked all r x) (values all r x) a l (goal all r x).0
+            (few-directly U n (f all r x) (there all r x (λ F s. HasFewWaysWithin (direct_under U F) (λ p. clause_ways p F) (others_under U) (HasProof U F) n s) (few-rules-so n few))) only
 
   pub texts-are-answered : OfTexts (AreAnsweredRight handles)
   texts-are-answered bytes d h c es decls seen = answered-right bytes d h c es decls seen

@@ -3,12 +3,11 @@ use Rattle.std.specs.Prelude.{◌≡◌, ℕ, List, []}
 use Rattle.type_terms.specs.Promised.Worlds.{World}
 use Rattle.type_terms.specs.Promised.Proofs.{In}
 use Rattle.type_terms.specs.Promised.Renumbering.{asker_in_set}
-use Rattle.type_terms.specs.Promised.LinkedSet.{LinkedSet}
+use Rattle.type_terms.specs.Promised.LinkedSet.{LinkedSet, ObeysTextRules, OrderedCrates}
 use Rattle.type_terms.specs.ArrangingLaws.{Listed, HoldsInOrder}
 use Rattle.text_language.specs.Promised.Declarations.{Declarations}
 use Rattle.overlap_check.specs.SessionLaws.{HeadlineInOrder}
-use Rattle.sessions.specs.JoinedSets.{ObeysTextRules}
-use Rattle.sessions.specs.Promised.AnsweredSets.{OrderedCrates, IsAcceptedAndHeld, IsOfAskedCrates}
+use Rattle.sessions.specs.Promised.AnsweredSets.{IsAcceptedAndHeld, IsOfAskedCrates}
 use Rattle.sessions.specs.Promised.CoherentTexts.{text_world}
 use Rattle.sessions.specs.Promised.Subjects.{IsOfText}
 

@@ -1,5 +1,5 @@
 -- What the solver answers to queries without variables, by what a crate sees of a text.
-use Rattle.std.specs.Prelude.{◌≡◌, ◌≤◌, ◌⊎◌, ℕ, true, List, [], map, Option, None}
+use Rattle.std.specs.Prelude.{◌≡◌, ◌≤◌, ◌⊎◌, ℕ, true, false, List, [], map, Option, Some, None}
 use Rattle.type_terms.specs.Promised.Answers.{SingleWay, is_bounded}
 use Rattle.type_terms.specs.Promised.Proofs.{HasProof}
 use Rattle.type_terms.specs.Promised.Erased.{erased_reference}
@@ -11,6 +11,7 @@ use Rattle.infer_table.specs.declared.certainty.TypingMode.{TypingMode}
 use Rattle.infer_table.specs.declared.certainty.TypingMode.TheVariants.{Coherence, PostAnalysis}
 use Rattle.search_graph.specs.Plain.{IsPlain}
 use Rattle.goal_evaluator.specs.Law.{IsYes}
+use Rattle.goal_evaluator.specs.TableAnswers.{has_values}
 use Rattle.goal_evaluator.specs.Tables.{frame_tables}
 use Rattle.goal_frames.specs.HandlerPrograms.{programs_of}
 use Rattle.goal_frames.specs.Programs.{Programs}
@@ -32,6 +33,11 @@ solver_goals = programs_of goals_by_view
 -- The trait reference has a proof, and the answer is a definite yes. Or it has none, and the answer is a refusal.
 abbrev pub IsRightOf : World → List Reference → Reference → Option AnswerTrees → Type 0
 IsRightOf V E r a = (HasProof V E r × IsYes frame_tables a) ⊎ ((HasProof V E r → ⊥) × (a ≡ None))
+
+-- The answer tells whether this holds: a refusal if it does not, and otherwise an answer without values.
+abbrev pub TellsProof : Type 0 → Option AnswerTrees → Type 0
+TellsProof P None = P → ⊥
+TellsProof P (Some a) = P × (has_values a ≡ false)
 
 module _ {C I R F : Type 0} (handles : Handles C I R F Solving (GoalInMode frame_tables solver_goals) (Option AnswerTrees)) where
   -- Plain recursion, in chains of fewer than `limit` goals, comes to no other answer.

@@ -1,4 +1,4 @@
--- What the solver answers to unambiguous queries, apart from yes.
+-- What the solver answers to queries, apart from yes.
 use Rattle.std.specs.Prelude.{ℕ, List}
 use Rattle.type_terms.specs.Promised.Handles.{Entry}
 use Rattle.text_language.specs.Promised.Declarations.{Declarations, Question}
@@ -11,7 +11,8 @@ use Rattle.sessions.specs.Sessions.{IsSolvingOf}
 use Rattle.sessions.specs.Promised.Subjects.{IsOfText}
 use Rattle.sessions.specs.declared.answers.ProveAnswer.TheVariants.{Unproved, Maybe}
 
--- An answer that is no yes is right: to an unambiguous query the solver answers `Unproved` only if it has no proof, and never `Maybe`.
+-- An answer that is no yes is right: to a query without variables, within the depth, the solver answers `Unproved` only if it has no proof, and
+-- `Maybe` only if it has one and rules compete. To one without where-clauses and parameters it answers `Unproved` only if there is no solution.
 abbrev pub OtherAnswersAreRight : Type 0
 OtherAnswersAreRight =
     (d : Declarations) → IsOfText d → (n : ℕ) (q : Question) → IsQuestion d n q → (s : Solving) → IsSolvingOf d q.asker s → (depth : ℕ) (es : List Entry)

@@ -2,7 +2,8 @@
 use Rattle.std.specs.Prelude.{ℕ, ◌<◌, IsTrue, List, map, length}
 use Rattle.type_terms.specs.Promised.Worlds.{core}
 use Rattle.type_terms.specs.Renumbering.{view_at}
-use Rattle.type_terms.specs.Promised.LinkedSet.{JoinedSet, all_written, dyns_rise}
+use Rattle.type_terms.specs.Promised.LinkedSet.{JoinedSet, dyns_rise}
+use Rattle.type_terms.specs.LinkedSet.{all_written}
 use Rattle.text_language.specs.Promised.Declarations.{Declarations}
 use Rattle.type_terms.specs.Promised.Verdicts.{KeepsOrphanRule}
 use Rattle.sessions.specs.Promised.Promises.{view_in}

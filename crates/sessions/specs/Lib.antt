@@ -23,7 +23,6 @@ pub mod Asking
 pub mod Foreign
 pub mod Promises
 pub mod ScopedTexts
-pub mod JoinedSets
 pub mod JoinedTexts
 pub mod CoherentTexts
 pub mod AnsweredSets

@@ -11,10 +11,11 @@ use Rattle.declarations.specs.Applied.{AreApplied}
 use Rattle.declarations.specs.Promised.Elaboration.{elaborate}
 use Rattle.declarations.specs.Items.{Items}
 use Rattle.infer_table.specs.Canonical.{GoalTrees, canonical_form}
-use Rattle.infer_table.specs.Content.{Table, Ready, content}
+use Rattle.infer_table.specs.Content.{Table, Ready, content, variables_of}
+use Rattle.infer_table.specs.Covers.{AreKnown}
 use Rattle.infer_table.specs.Inputs.{IsWithoutCanonical}
 use Rattle.infer_table.specs.Responses.{AnswerTrees}
-use Rattle.infer_table.specs.Solutions.{Assignment, Solves, resolved}
+use Rattle.infer_table.specs.Solutions.{Assignment, IsSorted, Solves, resolved}
 use Rattle.infer_table.specs.Unification.{table_trees}
 use Rattle.infer_table.specs.declared.certainty.TypingMode.TheVariants.{PostAnalysis}
 use Rattle.search_graph.specs.Plain.{IsNotPlain}
@@ -85,11 +86,18 @@ module _ {Handler : Type 0} (handler : HandlerMeaning Handler) where
     pub proved : IsWithoutCanonical g → Lists.FactHasProof Fact (handler.goals.Rule w) (handler.goals.coinductive w) (fact_with_values (content entries table.values) g)
     pub solved : IsWithoutCanonical g → (s : Assignment) → Solves s (content entries table.values) → Lists.FactHasProof Fact (handler.goals.Rule w) (handler.goals.coinductive w) (fact_under s g)
 
-  -- The search refuses the goal, or gives an answer that a table with variables of these kinds refuses.
+  -- Whatever its variables stand for, the goal has no proof in any of the handler's worlds, if its variables are of these kinds.
+  abbrev pub HasNoProofOver : handler.goals.World → List Sort → GoalTrees → Type 0
+  HasNoProofOver w ks g =
+      let h = handler.goals.handled w PostAnalysis (canonical_form g) in
+      IsWithoutCanonical g → AreKnown (variables_of (table_of ks)) g.environment → AreKnown (variables_of (table_of ks)) g.predicate
+      → (x : h.World) (s : Assignment) → IsSorted s → h.Proves x (fact_under s g) → ⊥
+
+  -- The search refuses the goal, or gives an answer that a table with variables of these kinds refuses. Then the goal has no proof.
   abbrev pub IsRefusedGoal : handler.goals.World → ℕ → List Sort → GoalTrees → Type 0
   IsRefusedGoal w depth ks g =
       let m = solver_meaning handler in
-      (a : Option AnswerTrees) × IsFoundBySearch m w depth (asked_outside g) a × (left_by (table_trees [] (table_of ks)) g a ≡ None)
+      (a : Option AnswerTrees) × IsFoundBySearch m w depth (asked_outside g) a × (left_by (table_trees [] (table_of ks)) g a ≡ None) × HasNoProofOver w ks g
 
   -- The search gives an answer that is no definite yes, or plain recursion has none within the depth, or some table gives values with which
   -- something bound occurs in the goal's predicate.

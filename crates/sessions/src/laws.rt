@@ -11,7 +11,7 @@ ghost use Rattle.sessions.specs.Clauses.{SupertraitsAreErased, SupertraitsProveN
 ghost use Rattle.sessions.specs.Laws.{UnboundStandForThemselves, ValuesFill};
 ghost use Rattle.sessions.specs.Proved.{ValuesAreProved};
 ghost use Rattle.sessions.specs.Answers.{solver_goals, AreAnsweredRight, AreAnsweredAsWritten, AreToldPossible};
-ghost use Rattle.sessions.specs.Decided.{DecidedAreAnswered, DecidedQuestionsAreAnswered};
+ghost use Rattle.sessions.specs.Decided.{DecidedAreAnswered, DecidedQuestionsAreAnswered, ShortAreAnswered};
 ghost use Rattle.sessions.specs.Fitting.{SortsTellFits};
 ghost use Rattle.sessions.specs.Goals.{FormedQuestionsAreGoals};
 ghost use Rattle.sessions.specs.Questions.{TextsQuestionsAreFormed, TextsQuestionsAreElaborated, ReferencesAreGoals};
@@ -29,7 +29,6 @@ ghost use Rattle.sessions.specs.AnsweredSets.{AnsweredSetsInAnyOrder, TextsObeyT
 ghost use Rattle.sessions.specs.CoherentTexts.{AcceptedTextsAreCoherent};
 ghost use Rattle.sessions.specs.Promised.CoherentTexts.{HeldTextsAreCoherent};
 ghost use Rattle.sessions.specs.Promised.Entailment.{YesHolds};
-ghost use Rattle.sessions.specs.JoinedSets.{HeldCratesAreLinked, JoinedSetsAreFourRecords};
 ghost use Rattle.sessions.specs.JoinedTexts.{TextsAreJoined, TextsListInOrder};
 ghost use Rattle.sessions.specs.ScopedTexts.{ImplsAreInScope};
 ghost use Rattle.sessions.specs.WorkedSets.{CratesOfTwoTextsAreASet};
@@ -138,16 +137,19 @@ pub fn refusals_are_exact()
 
 /// The search of a session answers each unambiguous trait reference under elaborated where-clauses, if all are well-formed by what a crate
 /// sees of a text without a fault. It has an answer within the depth: a definite yes if there is a proof by what the crate sees and the
-/// clauses as they are written, and a refusal if there is none. The same holds for each unambiguous query of such a text.
+/// clauses as they are written, and a refusal if there is none. The same holds for each unambiguous query of such a text. If the chains of
+/// premises are within the depth, there is a refusal exactly if there is no proof, and with few rules at each step a definite yes otherwise.
 pub fn decided_are_answered()
     ensures references { DecidedAreAnswered }
     ensures questions { DecidedQuestionsAreAnswered }
+    ensures short { ShortAreAnswered }
 {}
 
-// ---- answers to unambiguous queries, apart from `Yes`
+// ---- answers apart from `Yes`
 
-/// For an unambiguous query of a text without a fault, within the depth, `Unproved` says rightly that it has no proof. `Maybe` is never the
-/// answer.
+/// For a query without variables of a text without a fault, whose chains of premises are within the depth, `Unproved` says rightly that it
+/// has no proof, and `Maybe` that it has one. With few rules at each step, as for an unambiguous query, `Maybe` is never the answer. For a
+/// query without where-clauses and parameters `Unproved` says rightly that it has no solution.
 pub(crate) fn other_answers_are_right()
     ensures { OtherAnswersAreRight }
 {}
@@ -204,13 +206,6 @@ pub fn ready_impls_are_written_well()
 {}
 
 // ---- the crates of a text without a fault, as a linked set
-
-/// A joined set is four things: crates that obey the rules of texts, that fit together, that keep the orphan rule, and that stand as they
-/// were answered. So these are a linked set where each impl's crate was asked about its supertraits, and all were held.
-pub fn joined_sets_are_four_records()
-    ensures same { JoinedSetsAreFourRecords }
-    ensures held { HeldCratesAreLinked }
-{}
 
 /// In each linked set, the where-clauses of a query that was answered `yes` by a view that the set holds entail the query's trait reference
 /// with the values.

@@ -41,11 +41,11 @@ pub use later::{added_impls, added_impls_break_no_user, old_answers_stay, trait_
 pub use laws::{
     SolverSearch, accepted_texts_are_coherent, answered_sets_are_linked, clauses_apply,
     crates_of_two_texts_are_a_set, decided_are_answered, formed_questions_are_goals,
-    held_texts_are_coherent, impls_apply, impls_are_in_scope, joined_sets_are_four_records,
-    open_pair_goals_are_possible, pair_goals_are_formed, questions_are_answered_as_written,
-    questions_are_answered_exactly, questions_are_elaborated, questions_are_formed,
-    ready_impls_are_written_well, references_are_goals, refusals_are_exact, sorts_tell_fits,
-    texts_are_formed, texts_are_joined, texts_list_in_order,
+    held_texts_are_coherent, impls_apply, impls_are_in_scope, open_pair_goals_are_possible,
+    pair_goals_are_formed, questions_are_answered_as_written, questions_are_answered_exactly,
+    questions_are_elaborated, questions_are_formed, ready_impls_are_written_well,
+    references_are_goals, refusals_are_exact, sorts_tell_fits, texts_are_formed, texts_are_joined,
+    texts_list_in_order,
 };
 pub use left_session::LeftSession;
 pub use limits::Limits;

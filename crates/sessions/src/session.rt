@@ -470,6 +470,18 @@ impl<'w> Session<'w> {
         self.search.graph.frames()
     }
 
+    /// What searches have counted (`SearchGraph::evaluate_goal`). The session of another crate of the text can count on from it.
+    pub fn spent(&self) -> usize {
+        self.search.graph.spent()
+    }
+
+    /// Counts on from this number in the next call. What a call promises does not depend on it.
+    pub fn count_from(&mut self, spent: usize)
+        ensures { self.new ≡ self.old }
+    {
+        self.search.graph.count_from(spent);
+    }
+
     /// Whether a later version of this crate may add the impls of a section. Sections count from 0.
     ///
     /// An impl may be added if it keeps the crate's orphan rule, its trait is neither fundamental nor auto, and its open walk meets no
@@ -559,16 +571,18 @@ impl<'w> Session<'w> {
     /// variables that a value leaves, stand for themselves. The values name only what the crate sees; what is open in them are unknowns and
     /// parameters that the question names. If the reference has one solution alone, the values are that one. `Unproved` says that the search
     /// found none, and `Maybe` that it does not know.
-    /// A reference is decided if it has no variables, its chains of premises are shorter than the depth, and at each step one rule at most
-    /// has premises with proofs: of such a one `Unproved` says that it has no proof, and `Maybe` is never said. The fault is `Memory` where
-    /// memory is refused, or `Full` where a table of the session is full.
+    /// If the reference has no variables, and its chains of premises are shorter than the depth, `Unproved` says that it has no proof, and
+    /// `Maybe` that it has one. Then at some step several impls or built-in rules have premises with proofs, or several where-clauses
+    /// with lifetimes are equal up to these. Of a question without where-clauses and parameters `Unproved` says that it has no solution by
+    /// what the crate sees. The fault is `Memory` where memory is refused, or `Full` where a table of the session is full.
     ///
     /// `evaluate_root_goal` in a `ParamEnv` of elaborated clauses, as `predicate_may_hold` and `type_implements_trait` ask it outside coherence.
     pub fn prove(&mut self, number: u32) -> Result<ProveAnswer, Fault>
         requires { (q : Question) × AsksProof self.old.declarations self.old.of_crate number q }
 
-        // With the values of `Yes` there is a proof, and if there is one solution alone they are it. For an unambiguous query the answer is
-        // `Yes`, or `Unproved` if there is no proof.
+        // With the values of `Yes` there is a proof, and if there is one solution alone they are it. Without variables, and within the depth,
+        // `Unproved` has no proof, `Maybe` has one, and there is no `Maybe` if there are few rules at each step. Without where-clauses and
+        // parameters `Unproved` has no solution.
         ensures answer { (q : Question) → AsksProof self.old.declarations self.old.of_crate number q
             → IfOk result (λ a. IsProved self.old.depth self.old.declarations q (answer_in self.new.terms a)) }
         ensures held { IfOk result (AnswerValuesHeld self.new.terms) }

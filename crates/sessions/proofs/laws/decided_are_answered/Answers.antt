@@ -6,3 +6,6 @@ returns-clause-references c = Lemmas.decided-are-answered
 
 pub returns-clause-questions : goal.returns-clause-questions
 returns-clause-questions c = Lemmas.decided-questions-are-answered
+
+pub returns-clause-short : goal.returns-clause-short
+returns-clause-short c = Lemmas.short-are-answered
