@@ -1,18 +1,22 @@
-"""Each limit of a text: a text at the limit is accepted, and one past it has fault 16 on its line."""
+"""Each limit of a text: a text at the limit is accepted, and one past it has fault 16 on its line.
+
+And what the searches of a line may take in all: a verdict and `supers` of 1 KB whose searches are given up come in time, at each
+depth, and what needs little is answered behind them.
+"""
 from __future__ import annotations
 
 import argparse
 from functools import partial
 from typing import Callable, Iterator, NamedTuple
 
-from .common import Tally, program, run
+from .common import Limits, Tally, program, run
 from .makers import many, repeated
 
 # The most bytes of a text, and the most items of a crate or impls of a section.
 TEXT_LIMIT, ITEM_LIMIT = 67108864, 65535
 BASE = "crate base\ntrait Show\n"
 ACCEPTED, REFUSED = "crate base: accepted", "line 3: fault 16"
-# Where a name is declared, and that of a variable: @ stands for it. In the middle is what is answered last where it is not too long.
+# Declarations of a name and of a variable, for which @ stands. In the middle is the last line of the answer if the name is not too long.
 NAMED = """
 a crate's name|crate @: accepted|crate @ uses base
 a trait's name|crate base: accepted|trait @
@@ -25,9 +29,9 @@ a trait's const parameter|crate base: accepted|trait Many<const @>
 an impl's type parameter|crate base: accepted|impl<@> Show for (@,)
 an impl's lifetime|crate base: accepted|impl<'@> Show for &'@ u8
 an impl's const parameter|crate base: accepted|impl<const @> Show for [u8; @]
-a question's type parameter|prove 1: unproved|prove in base <@> @: Show
-a question's lifetime|prove 1: unproved|prove in base <'@> &'@ u8: Show
-a question's const parameter|prove 1: unproved|prove in base <const @> [u8; @]: Show
+a query's type parameter|prove 1: unproved|prove in base <@> @: Show
+a query's lifetime|prove 1: unproved|prove in base <'@> &'@ u8: Show
+a query's const parameter|prove 1: unproved|prove in base <const @> [u8; @]: Show
 a binder's lifetime|crate base: accepted|impl Show for for<'@> fn(&'@ u8)
 a binder's lifetime in a dyn|crate base: accepted|impl Show for dyn for<'@> Show
 a type variable|prove 1: unproved|prove in base (?@,): Show
@@ -52,7 +56,7 @@ def listed(prefix: str, count: int, first: int = 1) -> str:
     return ", ".join(many(f"{prefix}#", range(first, count + 1)))
 
 
-def all_sorts(form: str, count: int) -> str:
+def all_kinds(form: str, count: int) -> str:
     """So many parameters where the form has @: five lifetimes, six types, and constants for the rest."""
     return form.replace("@", ", ".join([listed("'a", 5), listed("T", 6), listed("const N", count - 11)]))
 
@@ -69,15 +73,15 @@ def pair(name: str, most: int, text: Callable[[int], str], taken: str = ACCEPTED
 
 
 def line_pair(name: str, most: int, line: Callable[[int], str], taken: str = ACCEPTED, refused: str = REFUSED, before: str = BASE) -> Iterator[Case]:
-    """The same, of a line behind others."""
+    """The same, for a line after others."""
     return pair(name, most, lambda count: before + line(count) + "\n", taken, refused)
 
 
 def text_cases() -> Iterator[Case]:
     yield from pair("# line ends", TEXT_LIMIT, lambda count: "\n" * count, "", f"line {TEXT_LIMIT + 1}: fault 16")
-    yield Case("a byte too many behind two line ends", " " * (TEXT_LIMIT - 2) + "\n\nx", "line 3: fault 16")
+    yield Case("a byte too many after two line ends", " " * (TEXT_LIMIT - 2) + "\n\nx", "line 3: fault 16")
     yield from pair("# crates", 4095, lambda count: numbered("crate c#", count), "crate c4095: accepted", "line 4096: fault 16")
-    yield from pair("# questions", 65536, lambda count: "crate b\ntrait S\n" + "prove in b!:S\n" * count, "prove 65536: unproved", "line 65539: fault 16")
+    yield from pair("# queries", 65536, lambda count: "crate b\ntrait S\n" + "prove in b!:S\n" * count, "prove 65536: unproved", "line 65539: fault 16")
 
 
 def item_cases() -> Iterator[Case]:
@@ -97,8 +101,8 @@ def section_cases() -> Iterator[Case]:
     yield from pair("# impls in a section", ITEM_LIMIT, lambda count: f"{head}later base\n{numbered(arrays, count)}", "later base: compatible", past)
     full, section = head + numbered(arrays, ITEM_LIMIT - 1), "later base\n" + numbered(arrays, ITEM_LIMIT)
     yield Case(f"{ITEM_LIMIT:,} impls in each of two sections of a crate of as many items", full + section * 2, "later base: compatible")
-    behind = "later base\ncrate other\nsupers in other\ncrate third\n" + numbered("struct s#", ITEM_LIMIT + 1)
-    yield Case(f"{ITEM_LIMIT + 1:,} structs behind a section", full + behind, f"line {4 + ITEM_LIMIT - 1 + 2 + ITEM_LIMIT + 1}: fault 16")
+    after = "later base\ncrate other\nsupers in other\ncrate third\n" + numbered("struct s#", ITEM_LIMIT + 1)
+    yield Case(f"{ITEM_LIMIT + 1:,} structs after a section", full + after, f"line {4 + ITEM_LIMIT - 1 + 2 + ITEM_LIMIT + 1}: fault 16")
     yield Case("30,000 sections", "crate base\n" + "later base\n" * 30000, "later base: compatible")
     yield Case("30,000 lines supers", "crate base\n" + "supers in base\n" * 30000, "supers base: held")
 
@@ -106,27 +110,27 @@ def section_cases() -> Iterator[Case]:
 def name_cases() -> Iterator[Case]:
     yield from pair("a name of # bytes", 64, lambda count: f"crate base\nstruct {'n' * count}\n", refused="line 2: fault 16")
     for row in NAMED.strip().split("\n"):
-        place, answer, line = row.split("|")
-        yield from line_pair(f"{place} of # bytes", 64, partial(named, line), named(answer, 64))
+        name, answer, line = row.split("|")
+        yield from line_pair(f"{name} of # bytes", 64, partial(named, line), named(answer, 64))
 
 
 def parameter_cases() -> Iterator[Case]:
-    """Parameters of each kind of line, of one sort and of all three."""
+    """Parameters of each kind of line, of one kind and of all three."""
     yield from line_pair("# parameters", 64, lambda count: f"struct Q<{listed('T', count)}>")
     yield from line_pair("# parameters of a trait", 64, lambda count: f"trait Many<{listed('T', count)}>")
     twelves = [listed("T", first + 11, first) for first in range(1, 61, 12)]
     both = "impl<{}> Show for (" + ", ".join(f"({it})" for it in twelves) + ", fn({}))"
     yield from line_pair("# parameters of an impl", 64, lambda count: both.format(listed("T", count), listed("T", count, 61)))
     for kind in ("struct", "trait"):
-        yield from line_pair(f"# parameters of all sorts of a {kind}", 64, partial(all_sorts, f"{kind} Q<@>"))
+        yield from line_pair(f"# parameters of all kinds of a {kind}", 64, partial(all_kinds, f"{kind} Q<@>"))
     lifetimes = "impl<{}, T> Show for &'a1 T"
     yield from line_pair("# lifetimes and a type of an impl", 63, lambda count: lifetimes.format(listed("'a", count)))
-    asked = "prove in base <{}> T1: Show"
-    yield from line_pair("# parameters of a question", 64, lambda count: asked.format(listed("T", count)), "prove 1: unproved")
-    yield from line_pair("# parameters of all sorts of a question", 64, partial(all_sorts, asked.format("@")), "prove 1: unproved")
+    query = "prove in base <{}> T1: Show"
+    yield from line_pair("# parameters of a query", 64, lambda count: query.format(listed("T", count)), "prove 1: unproved")
+    yield from line_pair("# parameters of all kinds of a query", 64, partial(all_kinds, query.format("@")), "prove 1: unproved")
     variables = f"trait Many<{listed('T', 12)}>"
-    question = "prove in base ({}): Many<{}>"
-    yield from line_pair("# variables", 16, lambda count: question.format(listed("?x", count - 12), listed("?y", 12)), "prove 1: unproved", before=f"crate base\n{variables}\n")
+    query = "prove in base ({}): Many<{}>"
+    yield from line_pair("# variables", 16, lambda count: query.format(listed("?x", count - 12), listed("?y", 12)), "prove 1: unproved", before=f"crate base\n{variables}\n")
 
 
 def type_cases() -> Iterator[Case]:
@@ -146,15 +150,55 @@ def type_cases() -> Iterator[Case]:
 
 def clause_cases() -> Iterator[Case]:
     yield from line_pair("# where-clauses", 64, lambda count: f"impl<T> Show for T where {repeated('T: Show', count)}")
-    yield from line_pair("# where-clauses of a question", 64, lambda count: f"prove in base <T> T: Show where {repeated('T: Show', count)}", "prove 1: yes")
+    yield from line_pair("# where-clauses of a query", 64, lambda count: f"prove in base <T> T: Show where {repeated('T: Show', count)}", "prove 1: yes")
     yield from line_pair("# bounds of a trait", 64, lambda count: f"trait Bounded: {repeated('Show', count, ' + ')}")
+
+
+# Types that grow in two ways, of which a search is given up, and what is asked of some of them.
+GROWING = "crate a\ntrait S\ntrait N<t>\ntrait M:S\nstruct V<T>\nimpl<T>S for V<T>where V<&&&[T]>:S,V<&T>:S\n"
+SMALL = ["u8", "i8", "()", "!", "u16", "i16", "u32", "i32", "u64", "i64", "str", "bool", "char"]
+KB = 1024
+# A busy machine takes this long at most; without a limit for a text some of these took minutes.
+IN_TIME = Limits(seconds=20, memory=512 * 1024 * 1024)
+
+
+def up_to_a_kilobyte(head: str, lines: Iterator[str]) -> str:
+    for line in lines:
+        if len(head) + len(line) >= KB:
+            break
+        head += line + "\n"
+    return head
+
+
+def heavy_types(*inner: str) -> Iterator[str]:
+    """Different types, each of which is larger than a search gets to the end of."""
+    wrapped = ["@", "[@]", "(@,)", "*const @", "[[@]]", "([@],)", "[(@,)]", "((@,),)", "*const [@]", "[*const @]", "*const *const @", "fn(@)", "[@; 1]"]
+    yield from (f"V<{form.replace('@', it)}>" for form in wrapped for it in inner or SMALL)
+
+
+def budget_cases() -> Iterator[Case]:
+    """Texts in which the searches of one line are given up one after the other: a query, pairs of impls, supertraits."""
+    yield Case("one query", f"{GROWING}prove in a V<u8>:S\n", "prove 1: maybe")
+    pairs = up_to_a_kilobyte(GROWING, (f"impl<T>N<T>for u8 where {it}:S,[T]:M" for it in heavy_types("T")))
+    yield Case("pairs of impls", f"{pairs}prove in a u8:Sized\n", "prove 1: yes")
+    headers = up_to_a_kilobyte(GROWING, (f"impl M for {it}" for it in heavy_types()))
+    yield Case("supertraits", f"{headers}supers in a\n", "supers a: undecided impl 2 clause 1")
+
+
+def check_budgets(tally: Tally, answering: str) -> None:
+    for case in budget_cases():
+        for depth in (16, 128, 255):
+            ended = run([answering, str(depth)], case.text.encode(), IN_TIME)
+            named = f"{case.name} that are given up, at depth {depth}"
+            tally.expect(named, ended.status == 0 and ended.last_line() == case.last, f"status {ended.status} and '{ended.last_line()}', '{case.last}' is wanted")
 
 
 def check(tally: Tally, _: argparse.Namespace) -> None:
     answering = program("celtisdarts")
+    check_budgets(tally, answering)
     for cases in (text_cases, item_cases, section_cases, name_cases, parameter_cases, type_cases, clause_cases):
         for case in cases():
             ended = run([answering, "8"], case.text.encode())
-            wanted = (1 if "fault" in case.last else 0, case.last)
+            expected = (1 if "fault" in case.last else 0, case.last)
             found = (ended.status, ended.last_line())
-            tally.expect(case.name, found == wanted, f"status {found[0]} and '{found[1]}', {wanted[0]} and '{wanted[1]}' are wanted")
+            tally.expect(case.name, found == expected, f"status {found[0]} and '{found[1]}', {expected[0]} and '{expected[1]}' are expected")

@@ -22,7 +22,7 @@ fn empty(alloc: Global) -> Result<Box<Slot>, AllocError> {
 /// No clause states that `at` is a handle afterwards: of all calls here this is the one whose promise is not proved.
 #[unsafe(no_mangle)]
 pub extern "C" fn celtisdarts_new(alloc: Global, at: &mut *mut u8) -> u32
-    ensures { result ≤ 3 }
+    ensures { (result ≡ 0) ⊎ (result ≡ 3) }
 {
     match empty(alloc) {
         Err(_) => 3,
@@ -100,7 +100,7 @@ pub extern "C" fn celtisdarts_name(
 ) -> u32
     ensures told { result ≡ 0 → Tells (IsCrateName handle.old.value number) buffer.new needed.new }
     ensures short { result ≡ 5 → TellsLength (IsCrateName handle.old.value number) buffer.old needed.new }
-    ensures word { result ≤ 10 }
+    ensures word { (result ≡ 0) ⊎ (result ≡ 3) ⊎ (result ≡ 5) ⊎ (result ≡ 9) ⊎ (result ≡ 10) }
     ensures no_crate { result ≡ 9 → HasNoCrate handle.old.value number }
     ensures no_text { result ≡ 10 → handle.old.value.asker ≡ None }
     ensures stays { handle.new.value ≡ handle.old.value }
@@ -125,7 +125,7 @@ pub extern "C" fn celtisdarts_check(
 ) -> u32
     ensures told { result ≡ 0 → Tells (IsCrateLine handle.old.value number) buffer.new needed.new }
     ensures short { result ≡ 5 → TellsLength (IsCrateLine handle.old.value number) buffer.old needed.new }
-    ensures word { result ≤ 10 }
+    ensures word { (result ≡ 0) ⊎ (result ≡ 3) ⊎ (result ≡ 4) ⊎ (result ≡ 5) ⊎ (result ≡ 9) ⊎ (result ≡ 10) }
     ensures no_crate { result ≡ 9 → HasNoCrate handle.old.value number }
     ensures no_text { result ≡ 10 → handle.old.value.asker ≡ None }
     ensures stays { handle.new.value ≡ handle.old.value }

@@ -1,6 +1,6 @@
 //! The slot of a handle, and the calls on it.
 
-ghost use Rattle.std.specs.Prelude.{◌≡◌, ◌≢◌, ◌≤◌, None};
+ghost use Rattle.std.specs.Prelude.{◌≡◌, ◌≢◌, ◌⊎◌, None};
 ghost use Rattle.celtisdarts_c.specs.Asked.{fault_word, TellsNumber, HasNoCrate, IsCrateName, IsCrateLine, IsAnswer, IsUnanswered};
 ghost use Rattle.celtisdarts_c.specs.Told.{Tells, TellsLength};
 
@@ -18,7 +18,7 @@ impl Slot {
     pub fn name(&self, number: u32, buffer: &mut [u8], needed: &mut usize) -> u32
         ensures told { result ≡ 0 → Tells (IsCrateName self.now number) buffer.new needed.new }
         ensures short { result ≡ 5 → TellsLength (IsCrateName self.now number) buffer.old needed.new }
-        ensures word { result ≤ 10 }
+        ensures word { (result ≡ 0) ⊎ (result ≡ 5) ⊎ (result ≡ 9) ⊎ (result ≡ 10) }
         ensures no_crate { result ≡ 9 → HasNoCrate self.now number }
         ensures no_text { result ≡ 10 → self.now.asker ≡ None }
     {
@@ -37,7 +37,7 @@ impl Slot {
     pub fn check(&mut self, number: u32, buffer: &mut [u8], needed: &mut usize) -> u32
         ensures told { result ≡ 0 → Tells (IsCrateLine self.old number) buffer.new needed.new }
         ensures short { result ≡ 5 → TellsLength (IsCrateLine self.old number) buffer.old needed.new }
-        ensures word { result ≤ 10 }
+        ensures word { (result ≡ 0) ⊎ (result ≡ 3) ⊎ (result ≡ 4) ⊎ (result ≡ 5) ⊎ (result ≡ 9) ⊎ (result ≡ 10) }
         ensures no_crate { result ≡ 9 → HasNoCrate self.old number }
         ensures no_text { result ≡ 10 → self.old.asker ≡ None }
         ensures stays { self.new ≡ self.old }

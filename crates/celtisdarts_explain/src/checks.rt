@@ -41,6 +41,7 @@ pub(crate) fn explain_checked(
     texts: Texts<'_>,
     session: &mut Session<'_>,
     check: Check,
+    may_run_out: bool,
     seen: &[ImplId],
 ) -> Result<Option<Diagnostic>, Fault>
     requires { IsCheckOf session.old.declarations session.old.of_crate check }
@@ -48,6 +49,6 @@ pub(crate) fn explain_checked(
 {
     match check {
         Check::Later(section, changed) => explain_later(alloc, texts, session, section, changed),
-        Check::Supers(_) => supertraits(texts, session, seen),
+        Check::Supers(_) => supertraits(texts, session, may_run_out, seen),
     }
 }

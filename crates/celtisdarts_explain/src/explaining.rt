@@ -40,6 +40,7 @@ fn explain_verdict(
     texts: Texts<'_>,
     session: &mut Session<'_>,
     verdict: &Verdict,
+    may_run_out: bool,
     spending: &mut Spending,
 ) -> Result<Option<Diagnostic>, Fault>
     requires { VerdictHeld session.old.terms verdict.now }
@@ -56,7 +57,7 @@ fn explain_verdict(
                 later: *later,
                 earlier: *earlier,
             };
-            overlap(alloc, texts, session, pair, spending)
+            overlap(alloc, texts, session, pair, may_run_out, spending)
         }
     }
 }
@@ -145,8 +146,9 @@ impl Known<'_> {
     }
 }
 
-/// Explains each answer of a text when it is given. If memory is refused, or a table of a session is full, what was found stays, and no more
-/// is explained.
+/// Explains each answer of a text when it is given. An explanation counts from nothing, as the answer did. What its searches have counted is
+/// forgotten, so that later answers are as without it. If memory is refused, or a table of a session is full, what was found stays, and no
+/// more is explained.
 #[derive(Drop)]
 pub struct Explaining<'f> {
     alloc: Global,
@@ -247,7 +249,9 @@ impl<'f> Explaining<'f> {
     {
         self.begin(workspace)?;
         let texts = self.known.texts(workspace);
-        explain_verdict(self.alloc, texts, session, verdict, &mut self.spending)
+        let ran_out = may_run_out(0, session.frames(), session.spent());
+        let spending = &mut self.spending;
+        explain_verdict(self.alloc, texts, session, verdict, ran_out, spending)
     }
 
     fn explain_check(
@@ -264,8 +268,9 @@ impl<'f> Explaining<'f> {
         self.known.see(self.alloc, session, workspace)?;
         let check = check_at(workspace, place);
         let depth = session.limits.depth;
-        let known = self.known.question(workspace, place, depth, false);
-        explain_checked(self.alloc, known.texts, session, check, known.seen)
+        let ran_out = may_run_out(0, session.frames(), session.spent());
+        let known = self.known.question(workspace, place, depth, ran_out);
+        explain_checked(self.alloc, known.texts, session, check, ran_out, known.seen)
     }
 
     fn explain_proved(
@@ -281,7 +286,7 @@ impl<'f> Explaining<'f> {
     {
         self.begin(workspace)?;
         self.known.see(self.alloc, session, workspace)?;
-        let ran_out = may_run_out(self.frames, session.frames());
+        let ran_out = may_run_out(self.frames, session.frames(), session.spent());
         match self.next(session) {
             Next::Silent => Ok(None),
             Next::Told => Ok(Some(too_long(self.alloc)?)),
@@ -313,7 +318,7 @@ impl<'f> Explaining<'f> {
     {
         self.begin(workspace)?;
         self.known.see(self.alloc, session, workspace)?;
-        let ran_out = may_run_out(self.frames, session.frames());
+        let ran_out = may_run_out(self.frames, session.frames(), session.spent());
         match self.next(session) {
             Next::Silent => Ok(None),
             Next::Told => Ok(Some(too_long(self.alloc)?)),
@@ -343,17 +348,23 @@ impl Listener for Explaining<'_> {
 
     fn judged(&mut self, session: &mut Session<'_>, workspace: &Workspace, verdict: &Verdict) {
         if self.lack.is_none() {
+            let spent = session.spent();
+            session.count_from(0);
             let told = self.explain_judged(session, workspace, verdict);
             let line = (session.crate_id.index as usize).saturating_sub(1);
             self.put(session, line, told);
+            session.count_from(spent);
         }
     }
 
     fn checked(&mut self, session: &mut Session<'_>, workspace: &Workspace, place: usize) {
         if self.lack.is_none() {
+            let spent = session.spent();
+            session.count_from(0);
             let told = self.explain_check(session, workspace, place);
             let line = crate_lines(workspace).saturating_add(place);
             self.put(session, line, told);
+            session.count_from(spent);
         }
     }
 
@@ -365,9 +376,12 @@ impl Listener for Explaining<'_> {
         answer: &ProveAnswer,
     ) {
         if self.lack.is_none() {
+            let spent = session.spent();
+            session.count_from(0);
             let told = self.explain_proved(session, workspace, number, answer);
             let line = question_line(workspace, (number as usize).saturating_sub(1));
             self.put(session, line, told);
+            session.count_from(spent);
         }
     }
 
@@ -379,9 +393,12 @@ impl Listener for Explaining<'_> {
         answer: RefuteAnswer,
     ) {
         if self.lack.is_none() {
+            let spent = session.spent();
+            session.count_from(0);
             let told = self.explain_refuted(session, workspace, number, answer);
             let line = question_line(workspace, (number as usize).saturating_sub(1));
             self.put(session, line, told);
+            session.count_from(spent);
         }
     }
 }

@@ -10,7 +10,8 @@
 //! - 4: with `--check`, some answer is not the best of its kind.
 #![tactic(auto)]
 
-ghost use Rattle.std.specs.Prelude.{◌≡◌};
+ghost use Rattle.std.specs.Prelude.{◌≡◌, ◌&&◌, [], not, IfOk};
+ghost use Rattle.coherence.specs.Promised.Told.{IsToldText};
 ghost use Rattle.celtisdarts_explain.specs.ExitStatus.{exit_status};
 
 mod breaking;
@@ -115,7 +116,10 @@ fn has_colors<W: IsTerminal>(options: Options<'_>, writer: &W) -> bool {
 }
 
 /// How the answers are, by how the run ended and what was printed.
-fn ending_of(ran: Result<Status, RunFault>, is_check: bool, told: Told) -> Result<Ending, Failure> {
+fn ending_of(ran: Result<Status, RunFault>, is_check: bool, told: Told) -> Result<Ending, Failure>
+    ensures status { IfOk result (λ ending. IfOk ran (λ status. ending.status ≡ status)) }
+    ensures refused { IfOk result (λ ending. ending.is_refused ≡ (is_check && not told.are_best)) }
+{
     match ran {
         Err(fault) => Err(Failure::Run(fault)),
         Ok(status) => Ok(Ending {
@@ -179,7 +183,10 @@ fn explain_lines(
     limits: Limits,
     lines: &mut Vec<u8>,
     explaining: &mut Explaining<'_>,
-) -> Result<Status, RunFault> {
+) -> Result<Status, RunFault>
+    requires { lines.old.items ≡ [] }
+    ensures { IfOk result (λ status. IsToldText limits.depth text.now status lines.new.items) }
+{
     match answer_text(alloc, text, limits, lines, explaining) {
         Ok(status) => Ok(status),
         Err(fault) => {

@@ -8,7 +8,7 @@ ghost use Rattle.explain_texts.specs.ExplainSessions.Walked.{PairWalkHeld};
 
 use crate::conflicts::{NOT_CHECKED, Pair, pair_said, tell_later_pairs};
 use crate::explaining::seen_impls;
-use crate::spending::{Spending, may_run_out};
+use crate::spending::Spending;
 use explain_texts::explain_diagnostics::{Diagnostic, ErrCode, Level, Span};
 use explain_texts::explain_sessions::{
     Claims, PairWalk, explain_overlap, impl_header, pair_claims,
@@ -114,6 +114,7 @@ fn tell_pair<'w>(
     impls: Pair,
     pair: &'w PairWalk,
     claims: &'w Claims,
+    may_run_out: bool,
 ) -> Result<Conflicting<'w>, AllocError>
     requires walked { PairWalkHeld session.now.terms pair.now }
     requires common { ShowsCommonOf session.now impls.later impls.earlier pair.now }
@@ -137,7 +138,7 @@ fn tell_pair<'w>(
         clauses,
         header,
         depth: session.limits.depth,
-        may_run_out: may_run_out(0, session.frames()),
+        may_run_out,
         seen: seen_impls(alloc, texts.workspace, session)?,
     })
 }
@@ -224,6 +225,7 @@ pub(crate) fn overlap(
     texts: Texts<'_>,
     session: &mut Session<'_>,
     impls: Pair,
+    may_run_out: bool,
     spending: &mut Spending,
 ) -> Result<Option<Diagnostic>, Fault>
     ensures { StaysOn session.old session.new }
@@ -232,7 +234,7 @@ pub(crate) fn overlap(
         return Ok(None);
     };
     let claims = pair_claims(session, &pair)?;
-    let found = tell_pair(texts, session, impls, &pair, &claims)?;
+    let found = tell_pair(texts, session, impls, &pair, &claims, may_run_out)?;
     let mut telling = diagnose(alloc, &found)?;
     tell_later_pairs(texts, session, impls, spending, &mut telling)?;
     let told = telling.finish()?;

@@ -1,6 +1,6 @@
 //! The text for a query that was answered `yes`: its proof, as the tree of the checked steps.
 
-ghost use Rattle.std.specs.Prelude.{ℕ};
+ghost use Rattle.std.specs.Prelude.{◌≡◌, ℕ, true, IfSome};
 ghost use Rattle.celtisdarts_explain.specs.Told.{ShowsProofOf};
 ghost use Rattle.explain_texts.specs.ExplainSessions.Claims.{ClaimsHold};
 ghost use Rattle.explain_texts.specs.ExplainSessions.Walked.{AllStepsHeld, ProofWalkHeld};
@@ -226,7 +226,9 @@ impl ToldProof<'_> {
     }
 
     /// Adds the rows of the proof, as many as are displayed.
-    fn tell_rows(&self, last: usize, telling: &mut Telling) -> Result<(), AllocError> {
+    fn tell_rows(&self, last: usize, telling: &mut Telling) -> Result<(), AllocError>
+        requires { self.now.proof.now.is_checked ≡ true }
+    {
         let mut course = Course {
             shown: Vec::new(telling.alloc()),
             left: Vec::new(telling.alloc()),
@@ -259,7 +261,9 @@ impl ToldProof<'_> {
     }
 
     /// Whether the proof was checked, and only built-in rules are assumed in it.
-    fn is_own(&self) -> bool {
+    fn is_own(&self) -> bool
+        ensures { result ≡ true → self.now.proof.now.is_checked ≡ true }
+    {
         for step in 0..self.proof.steps.len() {
             if self.is_doubtful(step) {
                 return false;
@@ -269,7 +273,9 @@ impl ToldProof<'_> {
     }
 
     /// The last step of the proof, if the proof was checked.
-    fn last_step(&self) -> Option<usize> {
+    fn last_step(&self) -> Option<usize>
+        ensures { IfSome result (λ _. self.now.proof.now.is_checked ≡ true) }
+    {
         if self.is_own() {
             self.proof.steps.len().checked_sub(1)
         } else {

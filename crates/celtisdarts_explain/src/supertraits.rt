@@ -5,7 +5,6 @@ ghost use Rattle.explain_texts.specs.ExplainSessions.Claims.{ClaimsHold};
 ghost use Rattle.explain_texts.specs.ExplainSessions.Walked.{WalkHeld};
 ghost use Rattle.explain_texts.specs.Sessions.Promised.Subjects.{StaysOn};
 
-use crate::spending::may_run_out;
 use explain_texts::explain_diagnostics::{Diagnostic, Place, Span, on_line};
 use explain_texts::explain_sessions::{Claims, GoalWalk, explain_supertrait, question_claims};
 use explain_texts::sessions::{Session, SupersAnswer};
@@ -63,7 +62,7 @@ fn explain_walk(
     walk: &GoalWalk,
     claims: &Claims,
     unheld: Unheld,
-    seen: &[ImplId],
+    asking: Asking<'_>,
 ) -> Result<Diagnostic, AllocError>
     requires walked { WalkHeld session.now.terms walk.now }
     requires claims { ClaimsHold session.now walk.now claims.now }
@@ -75,13 +74,6 @@ fn explain_walk(
         variables: &[],
     };
     let story = tell(alloc, texts, session, &names, walk, claims)?;
-    let asking = Asking {
-        span: header_span(texts, unheld.id),
-        depth: session.limits.depth,
-        may_run_out: may_run_out(0, session.frames()),
-        seen,
-        supertrait: Some(unheld.number),
-    };
     if unheld.is_missing {
         unproved(alloc, &story, asking)
     } else {
@@ -94,6 +86,7 @@ fn explain_unheld(
     texts: Texts<'_>,
     session: &mut Session<'_>,
     unheld: Unheld,
+    may_run_out: bool,
     seen: &[ImplId],
 ) -> Result<Option<Diagnostic>, Fault>
     ensures { StaysOn session.old session.new }
@@ -102,7 +95,14 @@ fn explain_unheld(
         return Ok(None);
     };
     let claims = question_claims(session, &walk)?;
-    let told = explain_walk(texts, session, &walk, &claims, unheld, seen)?;
+    let asking = Asking {
+        span: header_span(texts, unheld.id),
+        depth: session.limits.depth,
+        may_run_out,
+        seen,
+        supertrait: Some(unheld.number),
+    };
+    let told = explain_walk(texts, session, &walk, &claims, unheld, asking)?;
     Ok(Some(told))
 }
 
@@ -111,6 +111,7 @@ fn explain_unheld(
 pub(crate) fn supertraits(
     texts: Texts<'_>,
     session: &mut Session<'_>,
+    may_run_out: bool,
     seen: &[ImplId],
 ) -> Result<Option<Diagnostic>, Fault>
     ensures { StaysOn session.old session.new }
@@ -119,5 +120,5 @@ pub(crate) fn supertraits(
     let Some(unheld) = unheld_of(answer) else {
         return Ok(None);
     };
-    explain_unheld(texts, session, unheld, seen)
+    explain_unheld(texts, session, unheld, may_run_out, seen)
 }

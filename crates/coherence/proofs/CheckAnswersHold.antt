@@ -22,7 +22,7 @@ use Rattle.sessions.specs.Verdicts.{placed}
 use Rattle.sessions.proofs.Entailment.{yes-holds}
 use Rattle.sessions.specs.Promised.Promises.{view_in}
 use Rattle.sessions.specs.Promised.Releases as releases
-use Rattle.sessions.specs.Promised.Releases.{StopsAt, asked_supers, given_clauses}
+use Rattle.sessions.specs.Promised.Releases.{StopsAt, given_clauses}
 use Rattle.sessions.specs.Promised.Subjects.{IsOfText}
 use Rattle.sessions.proofs.OpaqueTerms.{reference-opaque-erased}
 use Rattle.coherence.specs.Promised.CheckAnswers.{header_supers, StopsWith, CheckAnswer, says_compatible, says_breaking, says_held, says_stopped}

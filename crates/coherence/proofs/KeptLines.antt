@@ -27,6 +27,12 @@ stays-on a b c x y = record {
   terms = λ i e h. y.terms i e (x.terms i e h);
 }
 
+-- what holds of a session's declarations, crate and depth holds after a call
+pub still : (P : Declarations → ℕ → ℕ → Type 0) (a b : Subject) → StaysOn a b → P a.declarations a.of_crate a.depth → P b.declarations b.of_crate b.depth
+still P a b s h =
+    subst (λ n. P b.declarations b.of_crate n) (sym s.depth)
+    (subst (λ k. P b.declarations k a.depth) (sym s.of_crate) (subst (λ (d : Declarations). P d a.of_crate a.depth) (sym s.declarations) h))
+
 -- one more line is kept
 pub still-kept : (Line : ℕ → List ℕ → Type 0) (ls : List KeptLine) (p : ℕ) (l : KeptLine) → p < length ls → Line p l.text.items → (n : ℕ) → IsKeptLine Line ls n ⊎ (n ≡ p) → IsKeptLine Line (set ls p l) n
 still-kept Line ls p l within is n h = by (cases_eq n p) h

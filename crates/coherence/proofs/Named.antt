@@ -1,7 +1,6 @@
 -- The impls that a verdict or a check names are there.
-use Rattle.std.proofs.Common.{◌≡◌, ℕ, zero, suc, ◌<◌, List, [], ◌∷◌, map, length, Some, refl, sym, ap, ◌∙◌, subst}
-use Rattle.std.specs.List.{slice_get}
-use Rattle.std.proofs.lemmas.Option.{slice_get_within, same_Some}
+use Rattle.std.proofs.Common.{◌≡◌, ℕ, ◌<◌, length, sym, ap, ◌∙◌, subst}
+use Rattle.std.proofs.lemmas.Option.{slice_get_within}
 use Rattle.sessions.specs.TypeTerms.Promised.Worlds.{ImplDecl, sees, view_of}
 use Rattle.sessions.specs.TypeTerms.Promised.Erased.{erased_world, erased_impl}
 use Rattle.sessions.specs.TypeTerms.Promised.Proofs.{In}

@@ -101,7 +101,8 @@ impl KeptSessions {
         }
     }
 
-    /// A session of this crate, which goes on with what an earlier one left.
+    /// A session of this crate, which goes on with what an earlier one left. It counts from nothing, so what is found does not depend on
+    /// what else was asked.
     pub fn resume<'w>(
         &mut self,
         workspace: &'w Workspace,
@@ -119,7 +120,9 @@ impl KeptSessions {
     {
         let left = self.take(id);
         self.note(id);
-        Session::after(self.alloc, workspace, id, self.limits, left)
+        let mut session = Session::after(self.alloc, workspace, id, self.limits, left)?;
+        session.count_from(0);
+        Ok(session)
     }
 
     /// Keeps what a session leaves behind this answer to a line of so many bytes. After a fault it keeps nothing of the session, so that

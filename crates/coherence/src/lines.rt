@@ -193,6 +193,7 @@ fn later_line(
     ensures stays { StaysOn session.old session.new }
     ensures full { IfErr result (SessionFullAtLimit session.new) }
 {
+    session.count_from(0);
     let answer = session.check_later(section)?;
     let name = workspace.crate_name(changed);
     let line = match answer {
@@ -217,6 +218,7 @@ fn supers_line(
     ensures stays { StaysOn session.old session.new }
     ensures full { IfErr result (SessionFullAtLimit session.new) }
 {
+    session.count_from(0);
     let answer = session.check_supertraits()?;
     let name = workspace.crate_name(asked);
     let line = match answer {
@@ -307,6 +309,7 @@ fn refute_line<L: Listener>(
     ensures stays { StaysOn session.old session.new }
     ensures full { IfErr result (SessionFullAtLimit session.new) }
 {
+    session.count_from(0);
     let answer = session.refute(number)?;
     let line = match answer {
         RefuteAnswer::No => print_line(alloc, &Answer::No { question: number })?,

@@ -69,6 +69,7 @@ pub(crate) fn named_answer<L: Listener>(
     ensures stays { StaysOn session.old session.new }
     ensures full { IfErr result (SessionFullAtLimit session.new) }
 {
+    session.count_from(0);
     let answer = session.prove(number)?;
     let named = match &answer {
         ProveAnswer::Yes(values) => {

@@ -1,9 +1,10 @@
 use Rattle.std.proofs.Common.{◌∙◌, sym}
 use Rattle.std.proofs.lemmas.Result.{err_from_is_err_and}
 use Rattle.sessions.specs.Promised.Given.{verdict_in}
+use Rattle.sessions.specs.Promised.Promises.{IsVerdictOf}
 use Rattle.coherence.proofs.Answered.{verdict-of}
 use Rattle.coherence.proofs.FullTables.{handed-on}
-use Rattle.coherence.proofs.KeptLines.{stays-on}
+use Rattle.coherence.proofs.KeptLines.{stays-on, still}
 use Rattle.coherence.proofs.Named.{names}
 use Rattle.coherence.proofs.output_lines.judge_by.Goals as goal
 
@@ -13,6 +14,11 @@ verdict_line-requires-clause-named g c =
     let d = c.args.workspace.now in
     let v = verdict_in c.check_crate.new.self.terms c.in_ok-verdict.verdict in
     rw c.interner.ensures.terms (names s.depth d c.args.id.index v c.requires.numbered (verdict-of s d c.args.id.index v c.requires.on c.requires.of_crate c.in_ok-verdict.ensures.verdict))
+
+pub judged-requires-clause-verdict : goal.judged-requires-clause-verdict
+judged-requires-clause-verdict g c =
+    let v = verdict_in c.check_crate.new.self.terms c.in_ok-verdict.verdict in
+    still (λ d k limit. IsVerdictOf limit d k v) c.args.session.now c.check_crate.new.self c.in_ok-verdict.ensures.stays c.in_ok-verdict.ensures.verdict
 
 pub returns-in_err-keep_answers-clause-full : goal.returns-in_err-keep_answers-clause-full
 returns-in_err-keep_answers-clause-full g c =

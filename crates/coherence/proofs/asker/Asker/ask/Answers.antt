@@ -1,7 +1,6 @@
-use Rattle.std.proofs.Common.{ℕ, List, Ok, subst, sym}
+use Rattle.std.proofs.Common.{ℕ, List, Ok, subst}
 use Rattle.std.specs.Prelude.{IfOk, IfErr}
 use Rattle.std.proofs.lemmas.Result.{err_from_is_err_and}
-use Rattle.sessions.specs.TextLanguage.Promised.Declarations.{Declarations}
 use Rattle.sessions.specs.TextLanguage.Text.{TextGives}
 use Rattle.text_parser.specs.Behind.{FitsBehind, behind}
 use Rattle.coherence.specs.Asking.{AskedText, IsAskFault, IsLastLine}

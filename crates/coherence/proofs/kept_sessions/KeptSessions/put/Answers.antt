@@ -1,4 +1,4 @@
-use Rattle.std.proofs.Common.{refl, subst, sym, ◌∙◌}
+use Rattle.std.proofs.Common.{refl, subst, sym}
 use Rattle.std.specs.Prelude.{is_ok}
 use Rattle.coherence.specs.KeptSessions.{AreLeftSessions}
 use Rattle.coherence.proofs.KeptSessions.{left-put, left-without}
