@@ -5,6 +5,7 @@ Each query of an example gets the answer of the example. Forms, faults, mistakes
 from __future__ import annotations
 
 import argparse
+import json
 import os
 import re
 import tempfile
@@ -99,6 +100,25 @@ def try_reasons(tally: Tally, room: Path) -> None:
     tally.expect("with colours", ended.output.startswith("prove 2: yes\n\x1b[") and "name:8:12\n" in ended.output, f"found: {ended}")
 
 
+def try_json(tally: Tally, room: Path) -> None:
+    """With --json each line that is no comment gets one object."""
+    lines = "".join(f"{line}\n" for line, _, _ in FORMS)
+    ended = run(["--explain", "--json", "--ask", "text.txt", "a"], f"\n// a comment\n?\n{lines}", room)
+    found = [json.loads(row) for row in ended.output.splitlines()]
+    tally.expect("as JSON, an object a line", ended.status == 0 and ended.errors == "" and len(found) == len(FORMS) + 1, f"found: {ended}")
+    for (line, _, answer), one in zip([("?", "", "fault 2"), *FORMS], found):
+        said = one["message"] if one["$message_type"] == "unanswered" else re.sub(r"^line \d+: ", "", one["answer"])
+        tally.expect(f"as JSON, `{line}`", said == answer, f"found: {one}")
+    expected = {"answered": "prove", "kind": "yes", "question": 2, "values": {"?x": "(u8,)"}}
+    tally.expect("as JSON, the values", found[8].get("parts") == expected, f"found: {found[8]}")
+    ended = run(["--explain", "--json", "--with", "text.txt", "--ask", "body.txt", "b"], "V<u8>: Show\nW: Show\n", room)
+    spans = [json.loads(row)["spans"][0] for row in ended.output.splitlines()]
+    places = [(span["file_name"], span["line_start"], span["column_start"]) for span in spans]
+    tally.expect("as JSON, by the lines of the text itself", places == [("body.txt", 2, 12), ("body.txt", 2, 12)], f"found: {ended}")
+    ended = run(["--explain", "--json", "--ask", "fault.txt", "a"], "u8: Show\n", room)
+    tally.expect("as JSON, a text with a fault", ended.status == 1 and json.loads(ended.output.splitlines()[0])["parts"]["fault"] == 2, f"found: {ended}")
+
+
 def refused(room: Path, words: str) -> Ended:
     return run(words.split(), "u8: Show\n", room)
 
@@ -109,8 +129,9 @@ def try_mistakes(tally: Tally, room: Path) -> None:
             "--ask -": "`--ask` reads lines from standard input, and takes its text from a file",
             "--with - --ask text.txt": "`--ask` reads lines from standard input, and takes its text from a file",
             "--ask text.txt a b": "`--ask` takes one text and one crate, not 3 arguments",
-            "--ask --check text.txt": "`--ask` answers line by line: `--json` and `--check` are for whole texts",
-            "--ask --explain --json text.txt": "`--ask` answers line by line: `--json` and `--check` are for whole texts",
+            "--ask --check text.txt": "`--ask` answers line by line: `--proof` and `--check` are for whole texts",
+            "--ask --proof dot text.txt": "`--ask` answers line by line: `--proof` and `--check` are for whole texts",
+            "--ask --json text.txt": "`--json` needs `--explain`",
     }.items():
         ended = refused(room, words)
         tally.expect(f"'{words}'", ended.is_like(2, "", f"celtisdarts: {message}{HELP_OFFERED}"), f"found: {ended}")
@@ -160,5 +181,5 @@ def check(tally: Tally, _: argparse.Namespace) -> None:
         for name, text in (("text.txt", TEXT), ("body.txt", "crate b uses a\n"), ("fault.txt", "crate a\n\nstruct\n")):
             (room / name).write_text(text)
         try_examples(tally)
-        for part in (try_forms, try_reasons, try_mistakes, try_terminal, try_history):
+        for part in (try_forms, try_reasons, try_json, try_mistakes, try_terminal, try_history):
             part(tally, room)

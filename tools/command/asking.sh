@@ -31,25 +31,47 @@ make_query() {
 
 # Prints the answer to the query: the last line, with its explanation.
 print_answer() {
+    [ -z "$json" ] || {
+        print_object
+        return
+    }
     case $status in
         0) awk '/^(prove|refute) [0-9]+: / { count = 0 } { lines[count++] = $0 } END { for (at = 0; at < count; at++) print lines[at] }' "$room/answer" ;;
         1) sed '1s/^line [0-9]*: //' "$room/answer" ;;
-        *) echo "no answer: memory or a table ran out" ;;
+        *) print_unanswered "no answer: memory or a table ran out" ;;
     esac
+}
+
+# The same in JSON: the object of the answer, or of the fault, and after it one that says what was not explained, if there is one.
+print_object() {
+    case $status in
+        0) awk '/^[^,]*,"answer":"(prove|refute) [0-9]+: / { count = 0 } { lines[count++] = $0 } END { for (at = 0; at < count; at++) print lines[at] }' "$room/answer" ;;
+        1) cat "$room/answer" ;;
+        *) print_unanswered "no answer: memory or a table ran out" ;;
+    esac
+}
+
+# print_unanswered MESSAGE: says why the line has no answer
+print_unanswered() {
+    if [ -n "$json" ]; then
+        printf '{"$message_type":"unanswered","answer":"","message":"%s","parts":{"answered":"nothing"}}\n' "$1"
+    else
+        printf '%s\n' "$1"
+    fi
 }
 
 # answer_line WORD...: answers the line with these words
 answer_line() {
-    case $#:$1 in
+    case $#:$1:$json in
         0:* | *://*) return ;;
-        "1:?")
+        "1:?:")
             print_forms 2> /dev/null || end_output
             return
             ;;
     esac
     make_query "$@"
     if [ -z "$query" ]; then
-        echo "asks nothing" 2> /dev/null || end_output
+        print_unanswered "asks nothing" 2> /dev/null || end_output
         return
     fi
     { cat "$room/asked" && printf '%s\n' "$query"; } > "$room/text" || exit 3
@@ -60,7 +82,7 @@ answer_line() {
 # run_program FILE: runs the program on the file and stores its output in `answer`. Lines are numbered in their own files.
 run_program() {
     if [ -n "$explains" ]; then
-        "$program" "$depth" --color "$color" --file "$title" < "$1" > "$room/answer" &
+        "$program" "$depth" ${json:+"$json"} --color "$color" --file "$title" < "$1" > "$room/answer" &
     else
         "$program" "$depth" < "$1" > "$room/answer" &
     fi
