@@ -249,7 +249,7 @@ impl<'f> Explaining<'f> {
     {
         self.begin(workspace)?;
         let texts = self.known.texts(workspace);
-        let ran_out = may_run_out(0, session.frames(), session.spent());
+        let ran_out = may_run_out(0, session.frames());
         let spending = &mut self.spending;
         explain_verdict(self.alloc, texts, session, verdict, ran_out, spending)
     }
@@ -268,7 +268,7 @@ impl<'f> Explaining<'f> {
         self.known.see(self.alloc, session, workspace)?;
         let check = check_at(workspace, place);
         let depth = session.limits.depth;
-        let ran_out = may_run_out(0, session.frames(), session.spent());
+        let ran_out = may_run_out(0, session.frames());
         let known = self.known.question(workspace, place, depth, ran_out);
         explain_checked(self.alloc, known.texts, session, check, ran_out, known.seen)
     }
@@ -286,7 +286,7 @@ impl<'f> Explaining<'f> {
     {
         self.begin(workspace)?;
         self.known.see(self.alloc, session, workspace)?;
-        let ran_out = may_run_out(self.frames, session.frames(), session.spent());
+        let ran_out = may_run_out(self.frames, session.frames());
         match self.next(session) {
             Next::Silent => Ok(None),
             Next::Told => Ok(Some(too_long(self.alloc)?)),
@@ -318,7 +318,7 @@ impl<'f> Explaining<'f> {
     {
         self.begin(workspace)?;
         self.known.see(self.alloc, session, workspace)?;
-        let ran_out = may_run_out(self.frames, session.frames(), session.spent());
+        let ran_out = may_run_out(self.frames, session.frames());
         match self.next(session) {
             Next::Silent => Ok(None),
             Next::Told => Ok(Some(too_long(self.alloc)?)),
@@ -348,23 +348,20 @@ impl Listener for Explaining<'_> {
 
     fn judged(&mut self, session: &mut Session<'_>, workspace: &Workspace, verdict: &Verdict) {
         if self.lack.is_none() {
-            let spent = session.spent();
-            session.count_from(0);
+            // (An explanation counts from nothing, as its answer did.)
+            session.begin_count();
             let told = self.explain_judged(session, workspace, verdict);
             let line = (session.crate_id.index as usize).saturating_sub(1);
             self.put(session, line, told);
-            session.count_from(spent);
         }
     }
 
     fn checked(&mut self, session: &mut Session<'_>, workspace: &Workspace, place: usize) {
         if self.lack.is_none() {
-            let spent = session.spent();
-            session.count_from(0);
+            session.begin_count();
             let told = self.explain_check(session, workspace, place);
             let line = crate_lines(workspace).saturating_add(place);
             self.put(session, line, told);
-            session.count_from(spent);
         }
     }
 
@@ -376,12 +373,10 @@ impl Listener for Explaining<'_> {
         answer: &ProveAnswer,
     ) {
         if self.lack.is_none() {
-            let spent = session.spent();
-            session.count_from(0);
+            session.begin_count();
             let told = self.explain_proved(session, workspace, number, answer);
             let line = question_line(workspace, (number as usize).saturating_sub(1));
             self.put(session, line, told);
-            session.count_from(spent);
         }
     }
 
@@ -393,12 +388,10 @@ impl Listener for Explaining<'_> {
         answer: RefuteAnswer,
     ) {
         if self.lack.is_none() {
-            let spent = session.spent();
-            session.count_from(0);
+            session.begin_count();
             let told = self.explain_refuted(session, workspace, number, answer);
             let line = question_line(workspace, (number as usize).saturating_sub(1));
             self.put(session, line, told);
-            session.count_from(spent);
         }
     }
 }

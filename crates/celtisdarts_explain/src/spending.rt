@@ -66,15 +66,12 @@ impl Spending {
 /// In fewer frames no search evaluates 65,536 nested goals, unless its goals have more than thirty each.
 const RUN_OUT: u64 = 2048;
 
-/// More is counted after an answer in which a search was given up for what earlier ones counted.
-const SPENT: usize = 32_768;
-
 /// Whether the search for an answer may have evaluated as many nested goals as it may. The answer took the frames from one count to another.
-/// One that took none was stored before. After it, searches of the text had counted `spent`.
-pub(crate) fn may_run_out(from: u64, to: u64, spent: usize) -> bool {
+/// One that took none was stored before.
+pub(crate) fn may_run_out(from: u64, to: u64) -> bool {
     let own = to.saturating_sub(from);
     let frames = if own == 0 { to } else { own };
-    frames >= RUN_OUT || spent >= SPENT
+    frames >= RUN_OUT
 }
 
 /// What is to be done with a query.

@@ -121,7 +121,7 @@ impl KeptSessions {
         let left = self.take(id);
         self.note(id);
         let mut session = Session::after(self.alloc, workspace, id, self.limits, left)?;
-        session.count_from(0);
+        session.begin_count();
         Ok(session)
     }
 

@@ -193,7 +193,8 @@ fn later_line(
     ensures stays { StaysOn session.old session.new }
     ensures full { IfErr result (SessionFullAtLimit session.new) }
 {
-    session.count_from(0);
+    // Each line counts from nothing: its answer does not depend on the lines before it.
+    session.begin_count();
     let answer = session.check_later(section)?;
     let name = workspace.crate_name(changed);
     let line = match answer {
@@ -218,7 +219,8 @@ fn supers_line(
     ensures stays { StaysOn session.old session.new }
     ensures full { IfErr result (SessionFullAtLimit session.new) }
 {
-    session.count_from(0);
+    // Each line counts from nothing: its answer does not depend on the lines before it.
+    session.begin_count();
     let answer = session.check_supertraits()?;
     let name = workspace.crate_name(asked);
     let line = match answer {
@@ -309,7 +311,8 @@ fn refute_line<L: Listener>(
     ensures stays { StaysOn session.old session.new }
     ensures full { IfErr result (SessionFullAtLimit session.new) }
 {
-    session.count_from(0);
+    // Each line counts from nothing: its answer does not depend on the lines before it.
+    session.begin_count();
     let answer = session.refute(number)?;
     let line = match answer {
         RefuteAnswer::No => print_line(alloc, &Answer::No { question: number })?,

@@ -69,7 +69,8 @@ pub(crate) fn named_answer<L: Listener>(
     ensures stays { StaysOn session.old session.new }
     ensures full { IfErr result (SessionFullAtLimit session.new) }
 {
-    session.count_from(0);
+    // Each line counts from nothing: its answer does not depend on the lines before it.
+    session.begin_count();
     let answer = session.prove(number)?;
     let named = match &answer {
         ProveAnswer::Yes(values) => {

@@ -470,16 +470,12 @@ impl<'w> Session<'w> {
         self.search.graph.frames()
     }
 
-    /// What searches have counted (`SearchGraph::evaluate_goal`). The session of another crate of the text can count on from it.
-    pub fn spent(&self) -> usize {
-        self.search.graph.spent()
-    }
-
-    /// Counts on from this number in the next call. What a call promises does not depend on it.
-    pub fn count_from(&mut self, spent: usize)
+    /// Lets the next call count nested goals from nothing (`SearchGraph::evaluate_goal`), as the first call of a session does. Otherwise
+    /// calls count on from each other. What a call promises does not depend on it.
+    pub fn begin_count(&mut self)
         ensures { self.new ≡ self.old }
     {
-        self.search.graph.count_from(spent);
+        self.search.graph.count_from(0);
     }
 
     /// Whether a later version of this crate may add the impls of a section. Sections count from 0.

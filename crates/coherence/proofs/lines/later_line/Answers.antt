@@ -11,14 +11,14 @@ use Rattle.sessions.specs.Promised.Shortages.{terms}
 use Rattle.coherence.proofs.FullTables.{handed-on}
 
 pub check_later-requires : goal.check_later-requires
-check_later-requires c = rw c.count_from.ensures (section-of c.args.session.now c.args.workspace.now c.args.changed.index c.args.section c.requires.on c.requires.of_crate c.requires.section)
+check_later-requires c = rw c.begin_count.ensures (section-of c.args.session.now c.args.workspace.now c.args.changed.index c.args.section c.requires.on c.requires.of_crate c.requires.section)
 
 pub returns-clause-line : goal.returns-clause-line
 returns-clause-line c =
     let s = c.args.session.now in
     let d = c.args.workspace.now in
     let crate = c.args.changed.index in
-    let right = later-of s d crate c.args.section (later_of c.in_ok-answer.answer) c.requires.on c.requires.of_crate (rw c.count_from.ensures at c.in_ok-answer.ensures.answer) in
+    let right = later-of s d crate c.args.section (later_of c.in_ok-answer.answer) c.requires.on c.requires.of_crate (rw c.begin_count.ensures at c.in_ok-answer.ensures.answer) in
     let name = c.crate_name-name.ensures in
     elim c.match-answer.branch [
       | in-Compatible+in_ok-line-in-Compatible w ↦

@@ -12,14 +12,14 @@ pub number_in_crate-number-requires : goal.number_in_crate-number-requires
 number_in_crate-number-requires c =
     let s = c.args.session.now in
     let d = c.args.workspace.now in
-    let right = supers-of s d c.args.asked.index (supers_answer_of c.in_ok-answer.answer) c.requires.on c.requires.of_crate (rw c.count_from.ensures at c.in_ok-answer.ensures.answer) in
+    let right = supers-of s d c.args.asked.index (supers_answer_of c.in_ok-answer.answer) c.requires.on c.requires.of_crate (rw c.begin_count.ensures at c.in_ok-answer.ensures.answer) in
     names-stopped s.depth d c.args.asked.index c.in-Missing.id.index c.in-Missing.clause c.requires.numbered (rw c.in-Missing.is at right)
 
 pub number_in_crate-number-requires-in-Undecided : goal.number_in_crate-number-requires-in-Undecided
 number_in_crate-number-requires-in-Undecided c =
     let s = c.args.session.now in
     let d = c.args.workspace.now in
-    let right = supers-of s d c.args.asked.index (supers_answer_of c.in_ok-answer.answer) c.requires.on c.requires.of_crate (rw c.count_from.ensures at c.in_ok-answer.ensures.answer) in
+    let right = supers-of s d c.args.asked.index (supers_answer_of c.in_ok-answer.answer) c.requires.on c.requires.of_crate (rw c.begin_count.ensures at c.in_ok-answer.ensures.answer) in
     names-stopped s.depth d c.args.asked.index c.in-Undecided.id.index c.in-Undecided.clause c.requires.numbered (rw c.in-Undecided.is at right)
 
 pub returns-clause-line : goal.returns-clause-line
@@ -27,7 +27,7 @@ returns-clause-line c =
     let s = c.args.session.now in
     let d = c.args.workspace.now in
     let crate = c.args.asked.index in
-    let right = supers-of s d crate (supers_answer_of c.in_ok-answer.answer) c.requires.on c.requires.of_crate (rw c.count_from.ensures at c.in_ok-answer.ensures.answer) in
+    let right = supers-of s d crate (supers_answer_of c.in_ok-answer.answer) c.requires.on c.requires.of_crate (rw c.begin_count.ensures at c.in_ok-answer.ensures.answer) in
     let name = c.crate_name-name.ensures in
     elim c.match-answer.branch [
       | in-Held+in_ok-line-in-Held w ↦ (_, of_headers crate (supers_answer_of Held) (rw w.in-Held.is at right), rw w.line-is (named-line (λ n. held n) d crate _ _ name w.in_ok-line-in-Held.ensures))

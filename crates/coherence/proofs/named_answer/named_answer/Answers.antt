@@ -17,7 +17,7 @@ returns-clause-answer g c q asks =
     let d = c.args.workspace.now in
     let n = c.args.number in
     let es = c.prove.new.self.terms in
-    let proved = proved-of s d n (answer_in es c.in_ok-answer.answer) c.requires.on (rw c.count_from.ensures at c.in_ok-answer.ensures.answer) q asks in
+    let proved = proved-of s d n (answer_in es c.in_ok-answer.answer) c.requires.on (rw c.begin_count.ensures at c.in_ok-answer.ensures.answer) q asks in
     elim c.match-answer.branch [
       | in-Yes+in_ok-texts-in-Yes w ↦
           record {
@@ -32,10 +32,10 @@ returns-clause-answer g c q asks =
 pub proved-requires-clause-answer : goal.proved-requires-clause-answer
 proved-requires-clause-answer g c =
     let v = answer_in c.prove.new.self.terms c.in_ok-answer.answer in
-    still (λ d k limit. (q : Question) → AsksProof d k c.args.number q → IsProved limit d q v) c.args.session.now c.prove.new.self (rw c.count_from.ensures at c.in_ok-answer.ensures.stays) (rw c.count_from.ensures at c.in_ok-answer.ensures.answer)
+    still (λ d k limit. (q : Question) → AsksProof d k c.args.number q → IsProved limit d q v) c.args.session.now c.prove.new.self (rw c.begin_count.ensures at c.in_ok-answer.ensures.stays) (rw c.begin_count.ensures at c.in_ok-answer.ensures.answer)
 
 pub returns-in_err-answer-clause-full : goal.returns-in_err-answer-clause-full
 returns-in_err-answer-clause-full g c = handed-on c.prove.new.self c.from_residual.result c.in_err-answer.field-0.0 c.from_residual.ensures.1 c.in_err-answer.ensures.full
 
 pub returns-clause-stays : goal.returns-clause-stays
-returns-clause-stays g c = stays-on _ _ _ (rw c.count_from.ensures at c.in_ok-answer.ensures.stays) c.proved.ensures
+returns-clause-stays g c = stays-on _ _ _ (rw c.begin_count.ensures at c.in_ok-answer.ensures.stays) c.proved.ensures

@@ -2,7 +2,7 @@ use Rattle.std.proofs.Common.{◌∙◌, ap, length}
 use Rattle.search_graph.specs.SearchState.{SearchState}
 use Rattle.goal_frames.specs.Stores.{kept_inputs, kept_responses}
 use Rattle.sessions.specs.Promised.Subjects.{Subject}
-use Rattle.sessions.proofs.session.Session.count_from.Goals as goal
+use Rattle.sessions.proofs.session.Session.begin_count.Goals as goal
 
 pub invariant_of-self : goal.invariant_of-self
 invariant_of-self c =
