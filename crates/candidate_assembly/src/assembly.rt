@@ -29,7 +29,7 @@ use crate::impls::next_impl_candidate;
 use crate::param_env::consider_param_env_candidate;
 use built_in_candidates::built_in_rules::consider_builtin_candidate;
 use built_in_candidates::dyn_type::dyn_bounds;
-use built_in_candidates::unsize_struct::UNSIZE;
+use declarations::core_traits::UNSIZE;
 use declarations::declarations::Declarations;
 use goal_evaluator::{BuiltinImplSource, CandidateSource, CandidateSpec, Considered};
 use infer_table::input::CanonicalInput;

@@ -34,8 +34,8 @@ use crate::visitors::{
     args_are_declared, args_are_over, region_is_over, trait_is_declared, ty_is_over,
 };
 use built_in_candidates::calls::second_argument;
-use built_in_candidates::unsize_struct::UNSIZE;
 use built_in_candidates::variables::is_unknown;
+use declarations::core_traits::UNSIZE;
 use declarations::declarations::Declarations;
 use declarations::items::GenericParamKind;
 use infer_table::canonical::CanonicalVarKind;

@@ -17,9 +17,10 @@ ghost use Rattle.candidate_model.specs.Candidates.{rules_behind, by_the_impl, by
 ghost use Rattle.built_in_candidates.specs.Goals.{asked_of, candidate_of};
 ghost use Rattle.candidate_assembly.specs.Headers.{var_kind, StandInHeader, SpeaksOfParameters, HaveCandidates, impls_above, matching_in};
 
-use crate::instances::{all_with_arguments, variable_kinds, variables_behind, with_arguments};
+use crate::instances::{variable_kinds, variables_behind};
 use built_in_candidates::parts::nested_goals;
 use built_in_candidates::relate::relate_args;
+use declarations::arguments::{all_with_arguments, with_arguments};
 use declarations::declarations::Declarations;
 use declarations::items::ImplDef;
 use goal_evaluator::{CandidateSource, CandidateSpec, Certainty, GoalSource};

@@ -7,8 +7,8 @@ ghost use Rattle.candidate_assembly.specs.SolverMeaning.{solver_by_view};
 ghost use Rattle.candidate_assembly.specs.SolverLaws.{solver-laws};
 
 use crate::trait_goals::compute_trait_goal;
-use built_in_candidates::built_in::SIZED;
 use built_in_candidates::built_in_rules::is_auto;
+use declarations::core_traits::SIZED;
 use declarations::declarations::Declarations;
 use goal_evaluator::{Considered, HandlerStep};
 use goal_frames::GoalHandler;

@@ -3,6 +3,8 @@
 #![tactic(auto)]
 
 pub mod apart;
+pub mod arguments;
+pub mod core_traits;
 pub mod declarations;
 mod elaborate;
 mod heads;

@@ -5,7 +5,7 @@ use Rattle.term_folds.specs.Arguments.{first_misfit}
 use Rattle.type_terms.specs.Growth.{Grew}
 use Rattle.declarations.specs.Promised.Elaboration.{Each}
 use Rattle.declarations.specs.Applied.{references_in, TraitRefsHeld}
-use Rattle.candidate_assembly.proofs.instances.all_with_arguments.Given as goal
+use Rattle.declarations.proofs.arguments.all_with_arguments.Given as goal
 
 abbrev pub invariant-references : goal.invariant-references
 invariant-references l = record {

@@ -1,5 +1,5 @@
 use Rattle.declarations.proofs.Bounded.{put-for-itself}
-use Rattle.declarations.proofs.elaborate.is_only_parameter.Goals as goal
+use Rattle.declarations.proofs.arguments.is_only_parameter.Goals as goal
 
 pub returns-in-Param : goal.returns-in-Param
 returns-in-Param c = λ e.

@@ -5,14 +5,14 @@ use Rattle.term_folds.specs.declared.predicate.TraitRef.{TraitRef}
 use Rattle.type_terms.specs.Pieces.{each_piece, one_piece}
 use Rattle.type_terms.specs.Promised.Trees.{instantiate}
 use Rattle.declarations.proofs.Bounded.{one-instantiated}
-use Rattle.candidate_assembly.proofs.instances.with_arguments.Goals as goal
+use Rattle.declarations.proofs.arguments.with_arguments.Goals as goal
 
 pub returns-in-Ok-clause-is : goal.returns-in-Ok-clause-is
 returns-in-Ok-clause-is c =
     let old = c.args.cx.now.entries in
     let new = c.instantiate.new.cx.entries in
     let value = c.bind.ensures in
-    one-instantiated old new (trees_at old c.args.args.0) c.args.trait_ref c.in-Ok.instance (c.in-Ok.ensures.outline ∙ ap (λ (b : TraitRef). b.def_id.index ∷ []) value)
+    one-instantiated old new (trees_at old c.args.args.0) c.args.reference c.in-Ok.instance (c.in-Ok.ensures.outline ∙ ap (λ (b : TraitRef). b.def_id.index ∷ []) value)
     (c.in-Ok.ensures.instantiated ∙ ap (λ (b : TraitRef). each_piece (λ d t. instantiate d (trees_at old c.args.args.0) t) (one_piece (trees_at old b.args.0))) value)
 
 pub returns-in-Err-Fault-clause-terms : goal.returns-in-Err-Fault-clause-terms
