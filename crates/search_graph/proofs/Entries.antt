@@ -143,38 +143,31 @@ module _ {C I R F : Type 0} (m : Meaning C I R F) where
   plain_head_there w n heads steps others x at = record { place = x.place; step = x.step; head = x.head; there = at; chain = x.chain; answer = x.answer; within = x.within; plain = x.plain }
 
   -- the entries that are there stay as they are where a goal without entries is put on the stack
-  pub runs_begin : (w : m.World) (met : Bool) (c : C) (asked : List Asked) (steps : List (m.Goal × PathKind)) (s : m.Goal × PathKind) (lists : List (Vec (ProvisionalEntry I R))) (none : Vec (ProvisionalEntry I R))
-      → length lists ≡ length steps → none.items ≡ [] → AreProvisional m w met c asked steps lists → AreProvisional m w met c asked (steps ++ s ∷ []) (lists ++ none ∷ [])
-  runs_begin w met c asked steps s lists none long empty all head place e at =
+  pub runs_begin : (w : m.World) (c : C) (asked : List Asked) (steps : List (m.Goal × PathKind)) (s : m.Goal × PathKind) (lists : List (Vec (ProvisionalEntry I R))) (none : Vec (ProvisionalEntry I R))
+      → length lists ≡ length steps → none.items ≡ [] → AreProvisional m w c asked steps lists → AreProvisional m w c asked (steps ++ s ∷ []) (lists ++ none ∷ [])
+  runs_begin w c asked steps s lists none long empty all head place e at =
       let old = entry_stood lists none head place e empty at in
       let inside : head + 1 ≤ length steps = let h = head_within lists head place e old in omega (arith, long, h) in
-      subst (λ l. IsProvisionalEntry m w met c asked l e) (sym (take-append-le (head + 1) steps (s ∷ []) inside)) (all head place e old)
+      subst (λ l. IsProvisionalEntry m w c asked l e) (sym (take-append-le (head + 1) steps (s ∷ []) inside)) (all head place e old)
 
   -- and where the newest goal leaves it with its list
-  pub runs_leave : (w : m.World) (met : Bool) (c : C) (asked : List Asked) (steps : List (m.Goal × PathKind)) (s : m.Goal × PathKind) (lists : List (Vec (ProvisionalEntry I R))) (last : Vec (ProvisionalEntry I R))
-      → length lists ≡ length steps → AreProvisional m w met c asked (steps ++ s ∷ []) (lists ++ last ∷ []) → AreProvisional m w met c asked steps lists
-  runs_leave w met c asked steps s lists last long all head place e at =
+  pub runs_leave : (w : m.World) (c : C) (asked : List Asked) (steps : List (m.Goal × PathKind)) (s : m.Goal × PathKind) (lists : List (Vec (ProvisionalEntry I R))) (last : Vec (ProvisionalEntry I R))
+      → length lists ≡ length steps → AreProvisional m w c asked (steps ++ s ∷ []) (lists ++ last ∷ []) → AreProvisional m w c asked steps lists
+  runs_leave w c asked steps s lists last long all head place e at =
       let inside : head + 1 ≤ length steps = let h = head_within lists head place e at in omega (arith, long, h) in
-      subst (λ l. IsProvisionalEntry m w met c asked l e) (take-append-le (head + 1) steps (s ∷ []) inside) (all head place e (entry_stays lists last head place e at))
+      subst (λ l. IsProvisionalEntry m w c asked l e) (take-append-le (head + 1) steps (s ∷ []) inside) (all head place e (entry_stays lists last head place e at))
 
   -- its own entries stand over the stack with it
-  pub runs_left : (w : m.World) (met : Bool) (c : C) (asked : List Asked) (steps : List (m.Goal × PathKind)) (s : m.Goal × PathKind) (lists : List (Vec (ProvisionalEntry I R))) (last : Vec (ProvisionalEntry I R))
-      → length lists ≡ length steps → AreProvisional m w met c asked (steps ++ s ∷ []) (lists ++ last ∷ []) → AreLeft m w met c asked (steps ++ s ∷ []) last.items
-  runs_left w met c asked steps s lists last long all place e at =
+  pub runs_left : (w : m.World) (c : C) (asked : List Asked) (steps : List (m.Goal × PathKind)) (s : m.Goal × PathKind) (lists : List (Vec (ProvisionalEntry I R))) (last : Vec (ProvisionalEntry I R))
+      → length lists ≡ length steps → AreProvisional m w c asked (steps ++ s ∷ []) (lists ++ last ∷ []) → AreLeft m w c asked (steps ++ s ∷ []) last.items
+  runs_left w c asked steps s lists last long all place e at =
       let whole : take (length lists + 1) (steps ++ s ∷ []) ≡ steps ++ s ∷ [] = take_all (length lists + 1) (steps ++ s ∷ []) (let n = length-append steps (s ∷ []) in omega (arith, long, n)) in
-      subst (λ l. IsProvisionalEntry m w met c asked l e) whole (all (length lists) place e (last, at_end lists last, at))
-
-  -- where an overflow was met since, less is said
-  pub entries_met : (w : m.World) (met more : Bool) (c : C) (asked : List Asked) (steps : List (m.Goal × PathKind)) (lists : List (Vec (ProvisionalEntry I R)))
-      → (more ≡ false → met ≡ false) → AreProvisional m w met c asked steps lists → AreProvisional m w more c asked steps lists
-  entries_met w met more c asked steps lists calm all head place e at =
-      let h = all head place e at in
-      record { input = h.input; known = h.known; fair = h.fair; source = h.source; some = h.some; below = h.below; yes = h.yes; needs = h.needs; listed = h.listed }
+      subst (λ l. IsProvisionalEntry m w c asked l e) whole (all (length lists) place e (last, at_end lists last, at))
 
   -- in a later context, with more listed that was asked
-  pub entries_keep : (w : m.World) (met : Bool) (c d : C) (asked more : List Asked) (steps : List (m.Goal × PathKind)) (lists : List (Vec (ProvisionalEntry I R)))
-      → KeepsContext m c d → KeepsResults asked more → AreProvisional m w met c asked steps lists → AreProvisional m w met d more steps lists
-  entries_keep w met c d asked more steps lists keeps grows all head place e at =
+  pub entries_keep : (w : m.World) (c d : C) (asked more : List Asked) (steps : List (m.Goal × PathKind)) (lists : List (Vec (ProvisionalEntry I R)))
+      → KeepsContext m c d → KeepsResults asked more → AreProvisional m w c asked steps lists → AreProvisional m w d more steps lists
+  entries_keep w c d asked more steps lists keeps grows all head place e at =
       let h = all head place e at in
       let input = keeps.inputs e.input h.input in
       let result = keeps.results e.result h.known in
@@ -191,13 +184,13 @@ module _ {C I R F : Type 0} (m : Meaning C I R F) where
       }
 
   -- where lists and what was asked are the same
-  pub entries_same : (w : m.World) (met : Bool) (c d : C) (asked more : List Asked) (steps : List (m.Goal × PathKind)) (lists new : List (Vec (ProvisionalEntry I R)))
-      → KeepsContext m c d → more ≡ asked → new ≡ lists → AreProvisional m w met c asked steps lists → AreProvisional m w met d more steps new
-  entries_same w met c d asked more steps lists new keeps same is all = rw (same, is) (entries_keep w met c d asked asked steps lists keeps (λ place x at. at) all)
+  pub entries_same : (w : m.World) (c d : C) (asked more : List Asked) (steps : List (m.Goal × PathKind)) (lists new : List (Vec (ProvisionalEntry I R)))
+      → KeepsContext m c d → more ≡ asked → new ≡ lists → AreProvisional m w c asked steps lists → AreProvisional m w d more steps new
+  entries_same w c d asked more steps lists new keeps same is all = rw (same, is) (entries_keep w c d asked asked steps lists keeps (λ place x at. at) all)
 
-  pub entries_within_keep : (w v : m.World) (met : Bool) (before : List (m.Goal × m.Answer)) (c d : C) (asked : List Asked) (steps : List (m.Goal × PathKind)) (lists : List (Vec (ProvisionalEntry I R)))
-      → KeepsContext m c d → AreProvisional m v met c asked steps lists → AreEntriesWithin m w before c lists → AreEntriesWithin m w before d lists
-  entries_within_keep w v met before c d asked steps lists keeps all stay head place e at =
+  pub entries_within_keep : (w v : m.World) (before : List (m.Goal × m.Answer)) (c d : C) (asked : List Asked) (steps : List (m.Goal × PathKind)) (lists : List (Vec (ProvisionalEntry I R)))
+      → KeepsContext m c d → AreProvisional m v c asked steps lists → AreEntriesWithin m w before c lists → AreEntriesWithin m w before d lists
+  entries_within_keep w v before c d asked steps lists keeps all stay head place e at =
       let h = all head place e at in
       rw ((keeps.inputs e.input h.input).1, (keeps.results e.result h.known).1) (stay head place e at)
 
@@ -219,14 +212,14 @@ module _ {C I R F : Type 0} (m : Meaning C I R F) where
   ]
 
   -- and where one was added
-  pub entries_left : (w : m.World) (met : Bool) (c : C) (asked : List Asked) (steps : List (m.Goal × PathKind)) (old new : List (Vec (ProvisionalEntry I R))) (added : ℕ) (entry : ProvisionalEntry I R)
-      → AddsEntry old new added entry → added < length old → IsProvisionalEntry m w met c asked (take (added + 1) steps) entry → AreProvisional m w met c asked steps old → AreProvisional m w met c asked steps new
-  entries_left w met c asked steps old new added entry adds inside is all head place e at = elim (entry_added old new added entry head place e adds inside at) [
+  pub entries_left : (w : m.World) (c : C) (asked : List Asked) (steps : List (m.Goal × PathKind)) (old new : List (Vec (ProvisionalEntry I R))) (added : ℕ) (entry : ProvisionalEntry I R)
+      → AddsEntry old new added entry → added < length old → IsProvisionalEntry m w c asked (take (added + 1) steps) entry → AreProvisional m w c asked steps old → AreProvisional m w c asked steps new
+  entries_left w c asked steps old new added entry adds inside is all head place e at = elim (entry_added old new added entry head place e adds inside at) [
     | inl stood_there ↦ all head place e stood_there
-    | inr own ↦ subst (λ n. IsProvisionalEntry m w met c asked (take (n + 1) steps) e) (sym own.0) (subst (λ z. IsProvisionalEntry m w met c asked (take (added + 1) steps) z) own.1 is)
+    | inr own ↦ subst (λ n. IsProvisionalEntry m w c asked (take (n + 1) steps) e) (sym own.0) (subst (λ z. IsProvisionalEntry m w c asked (take (added + 1) steps) z) own.1 is)
   ]
 
-  module _ (w : m.World) (met : Bool) (c : C) (asked : List Asked) (steps : List (m.Goal × PathKind)) (lists : List (Vec (ProvisionalEntry I R))) (all : AreProvisional m w met c asked steps lists) (head place : ℕ) (e : ProvisionalEntry I R) (at : IsEntryAt lists head place e) where
+  module _ (w : m.World) (c : C) (asked : List Asked) (steps : List (m.Goal × PathKind)) (lists : List (Vec (ProvisionalEntry I R))) (all : AreProvisional m w c asked steps lists) (head place : ℕ) (e : ProvisionalEntry I R) (at : IsEntryAt lists head place e) where
     -- a yes of an entry is shown as the reply to a question over the whole stack, where the path from its head is of its kind
     pub entry_shown : (k : PathKind) → e.kind ≡ kind_of (drop (head + 1) steps) k → m.is_yes (m.answer_of c e.result) ≡ true
         → ShownFor m.Goal (m.Follows w) (indices e.heads.items) steps (m.goal_of c e.input) k
@@ -249,7 +242,7 @@ module _ {C I R F : Type 0} (m : Meaning C I R F) where
   kind_steps c (suc n) [] k = refl
   kind_steps c (suc n) (e ∷ es) k = kind_steps c n es k
 
-  module _ (c : C) (es : List (StackEntry I R)) (asked : List Asked) (met : Bool) (lists : List (Vec (ProvisionalEntry I R))) (all : AreEntriesOver m c es asked met lists)
+  module _ (c : C) (es : List (StackEntry I R)) (asked : List Asked) (lists : List (Vec (ProvisionalEntry I R))) (all : AreEntriesOver m c es asked lists)
       (number : ℕ) (input : I) (k : PathKind) (depth head place : ℕ) (at : IsServingAt lists es number input k depth head place) where
     -- an entry that serves a question is the reply to it
     pub entry_answers : IsAnswer m (m.world c) (steps_of m c es) (m.goal_of c input, k) (indices at.0.heads.items) c at.0.result
@@ -264,7 +257,7 @@ module _ {C I R F : Type 0} (m : Meaning C I R F) where
           fair = entry.fair;
           source = entry.source;
           below = below_more (length (take (head + 1) (steps_of m c es))) (length (steps_of m c es)) (indices e.heads.items) low entry.below;
-          yes = entry_shown (m.world c) met c asked (steps_of m c es) lists all head place e at.1 k kind;
+          yes = entry_shown (m.world c) c asked (steps_of m c es) lists all head place e at.1 k kind;
         })
 
     pub entry_faithful : IsFaithful m (m.world c) (at.0.reach + 1) (steps_of m c es) (m.goal_of c input) (m.answer_of c at.0.result) at.0.encountered_overflow (indices at.0.heads.items)
@@ -272,7 +265,7 @@ module _ {C I R F : Type 0} (m : Meaning C I R F) where
         let e : ProvisionalEntry I R = at.0 in
         faithful_needs_head m (m.world c) (e.reach + 1) (steps_of m c es) (m.goal_of c input) (m.answer_of c e.result) e.encountered_overflow (indices e.heads.items)
         (subst (λ i. NeedsHead m (m.world c) (e.reach + 1) (steps_of m c es) (m.goal_of c i) e.encountered_overflow (indices e.heads.items)) at.2.same
-        (entry_needs (m.world c) met c asked (steps_of m c es) lists all head place e at.1))
+        (entry_needs (m.world c) c asked (steps_of m c es) lists all head place e at.1))
 
     -- no limit had a part in it if none had in the entries
     pub entry_within : (before : List (m.Goal × m.Answer)) → AreEntriesWithin m (m.world c) before c lists → IsWithin m (m.world c) before (m.goal_of c input) (m.answer_of c at.0.result)
@@ -280,13 +273,13 @@ module _ {C I R F : Type 0} (m : Meaning C I R F) where
 
   module _ (c : C) (es : List (StackEntry I R)) (k : PathKind) (nearest : ℕ) (heads : List CycleHead) (inside : nearest < length es) (rests : RestsOn heads nearest) (low : AreBelow (nearest + 1) (indices heads)) where
     -- a result over the stack leaves an entry in the list of its nearest head
-    pub left_entry : (asked : List Asked) (met : Bool) (input : I) (depth : ℕ) (overflowed : Bool) (r : R) (e : ProvisionalEntry I R) (a : Asked)
+    pub left_entry : (asked : List Asked) (input : I) (depth : ℕ) (overflowed : Bool) (r : R) (e : ProvisionalEntry I R) (a : Asked)
         → e.input ≡ input → e.result ≡ r → e.heads.items ≡ heads → e.kind ≡ kind_after (drop (nearest + 1) es) k → slice_get asked e.asked ≡ Some a
         → e.encountered_overflow ≡ overflowed → (overflowed ≡ true → e.reach ≡ depth)
         → m.IsInput c input → IsProvisional m (m.world c) (steps_of m c es) (m.goal_of c input, k) (indices heads) c r
         → IsFaithful m (m.world c) (depth + 1) (steps_of m c es) (m.goal_of c input) (m.answer_of c r) overflowed (indices heads)
-        → IsProvisionalEntry m (m.world c) met c asked (take (nearest + 1) (steps_of m c es)) e
-    left_entry asked met input depth overflowed r e a same copy on kind at met_is far known result faithful =
+        → IsProvisionalEntry m (m.world c) c asked (take (nearest + 1) (steps_of m c es)) e
+    left_entry asked input depth overflowed r e a same copy on kind at met_is far known result faithful =
         let w = m.world c in
         let g = m.goal_of c input in
         let steps = steps_of m c es in

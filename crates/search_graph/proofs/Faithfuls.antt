@@ -299,18 +299,6 @@ module _ {C I R F : Type 0} (m : Meaning C I R F) where
       in
       nested (pred limit) (rw t.told.within (omega (arith, l))) all n x.0 (omega (arith, within)) x.2
 
-  -- plain recursion on each goal of the stack descends to what the newest one asks, if it has met no overflow
-  pub asked_descends : (w : m.World) (reach : ℕ) (steps : List (m.Goal × PathKind)) (g q : m.Goal) (j k : PathKind) (overflowed : Bool) (heads : List ℕ) (heard : List (Reply m.Answer))
-      → m.asks w g heard ≡ Evaluate q k → IsOnPlainTrack m w reach steps g overflowed heads heard → overflowed ≡ false
-      → ((limit : ℕ) → AllDescend m w limit steps g) → (limit : ℕ) → AllDescend m w limit (steps ++ (g, j) ∷ []) q
-  asked_descends w reach steps g q j k overflowed heads heard asks track within all limit place s at =
-      let now = tracking w reach steps g overflowed heads heard track limit (inr within) (all_heads_descend w limit heads steps g (all limit)) in
-      let down : Descends m w limit g q = question_descends w limit g q k overflowed heads heard asks now in
-      elim (slice_get_last steps (g, j) s place at) [
-        | inl there ↦ Descends-trans m w limit s.0 g q (all limit place s there) down
-        | inr own ↦ subst (λ z. Descends m w limit z.0 q) own down
-      ]
-
   -- a goal that ends with a result that rests on others, or after an overflow, isn't plain
   pub ends_not_plain : (w : m.World) (reach : ℕ) (steps : List (m.Goal × PathKind)) (g : m.Goal) (a : m.Answer) (overflowed : Bool) (heads : List ℕ)
       → (overflowed ≡ true) ⊎ (heads ≡ [] → ⊥) → IsFaithful m w reach steps g a overflowed heads

@@ -73,11 +73,11 @@ module _ {I R : Type 0} (es : List (StackEntry I R)) (j : PathKind) (o : Evaluat
     | inr own ↦ inr (0, entry, refl, subst (λ n. IsMoved es j o reach at n entry e) (sym own.0) (subst (λ z. IsMoved es j o reach at next entry z) own.1 moved))
   ]
 
-module _ {C I R F : Type 0} (m : Meaning C I R F) (c : C) (es : List (StackEntry I R)) (input : I) (j : PathKind) (o : EvaluationResult R) (depth reach : ℕ) (asked earlier : List Asked) (at : ℕ) (a : Asked) (met : Bool)
+module _ {C I R F : Type 0} (m : Meaning C I R F) (c : C) (es : List (StackEntry I R)) (input : I) (j : PathKind) (o : EvaluationResult R) (depth reach : ℕ) (asked earlier : List Asked) (at : ℕ) (a : Asked)
     (here : slice_get asked at ≡ Some a) (below : AreBelow (length es) (indices o.dependencies.heads.items)) (rested : o.dependencies.heads.items ≡ [] → ⊥) (result : IsResultOver m c es input j o)
     (far : o.dependencies.encountered_overflow ≡ true → reach ≡ depth) (faithful : IsFaithfulOver m c es input (depth + 1) c o) where
   -- an entry of a goal that ended stands over the stack up to its next head
-  module _ (next : ℕ) (e new : ProvisionalEntry I R) (entry : IsProvisionalEntry m (m.world c) met c earlier (steps_of m c es ++ (m.goal_of c input, j) ∷ []) e) (moved : IsMoved es j o reach at next e new) where
+  module _ (next : ℕ) (e new : ProvisionalEntry I R) (entry : IsProvisionalEntry m (m.world c) c earlier (steps_of m c es ++ (m.goal_of c input, j) ∷ []) e) (moved : IsMoved es j o reach at next e new) where
     low : (place : ℕ) → RestsOn new.heads.items place → place < length es
     low place h =
         let n = length-append (steps_of m c es) ((m.goal_of c input, j) ∷ []) in
@@ -171,7 +171,7 @@ module _ {C I R F : Type 0} (m : Meaning C I R F) (c : C) (es : List (StackEntry
           | inr last ↦ ended_needs n x.chain x.answer x.within second (subst (λ z. IsPlain m (m.world c) x.chain z.0 x.answer) (sym last) x.plain)
         ]
 
-    pub moved_entry : IsProvisionalEntry m (m.world c) met c asked (take (next + 1) (steps_of m c es)) new
+    pub moved_entry : IsProvisionalEntry m (m.world c) c asked (take (next + 1) (steps_of m c es)) new
     moved_entry =
         let steps = steps_of m c es in
         let inside : next < length steps = let l = low next moved.nearest.0 in let n = length-steps_of m c es in omega (arith, l, n) in
@@ -188,8 +188,8 @@ module _ {C I R F : Type 0} (m : Meaning C I R F) (c : C) (es : List (StackEntry
           listed = (a, rw moved.asked_under here);
         }
 
-  pub entries_moved : (left : List (ProvisionalEntry I R)) (old new : List (Vec (ProvisionalEntry I R))) → AreLeft m (m.world c) met c earlier (steps_of m c es ++ (m.goal_of c input, j) ∷ []) left
-      → AreMoved es left j o reach at old new → AreProvisional m (m.world c) met c asked (steps_of m c es) old → AreProvisional m (m.world c) met c asked (steps_of m c es) new
+  pub entries_moved : (left : List (ProvisionalEntry I R)) (old new : List (Vec (ProvisionalEntry I R))) → AreLeft m (m.world c) c earlier (steps_of m c es ++ (m.goal_of c input, j) ∷ []) left
+      → AreMoved es left j o reach at old new → AreProvisional m (m.world c) c asked (steps_of m c es) old → AreProvisional m (m.world c) c asked (steps_of m c es) new
   entries_moved left old new over moved all head place e is = elim (moved head place e is) [
     | inl stood ↦ all head place e stood
     | inr came ↦ moved_entry head came.1 e (over came.0 came.1 came.2) came.3

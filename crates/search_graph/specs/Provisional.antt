@@ -84,7 +84,7 @@ module _ {C I R F : Type 0} (m : Meaning C I R F) where
   -- on its heads alone: a yes is shown for the goal as a nested goal of the newest of these goals, by a step of the entry's
   -- kind. Plain recursion, as far as the entry is used, answers the goal only if it answers a head. Its nested goals are listed
   -- in the cache
-  pub record IsProvisionalEntry (w : m.World) (met : Bool) (c : C) (asked : List Asked) (before : List (m.Goal × PathKind)) (e : ProvisionalEntry I R) : Type 0 where
+  pub record IsProvisionalEntry (w : m.World) (c : C) (asked : List Asked) (before : List (m.Goal × PathKind)) (e : ProvisionalEntry I R) : Type 0 where
     pub input : m.IsInput c e.input
     pub known : m.IsResult c e.result
     pub fair : IsFair m w (m.goal_of c e.input) (m.answer_of c e.result)
@@ -96,13 +96,13 @@ module _ {C I R F : Type 0} (m : Meaning C I R F) where
     pub listed : (a : Asked) × (slice_get asked e.asked ≡ Some a)
 
   -- the same of each entry in the list of a goal of the stack, over the stack up to that goal
-  abbrev pub AreProvisional : m.World → Bool → C → List Asked → List (m.Goal × PathKind) → List (Vec (ProvisionalEntry I R)) → Type 0
-  AreProvisional w met c asked steps lists =
-      (head place : ℕ) (e : ProvisionalEntry I R) → IsEntryAt lists head place e → IsProvisionalEntry w met c asked (take (head + 1) steps) e
+  abbrev pub AreProvisional : m.World → C → List Asked → List (m.Goal × PathKind) → List (Vec (ProvisionalEntry I R)) → Type 0
+  AreProvisional w c asked steps lists =
+      (head place : ℕ) (e : ProvisionalEntry I R) → IsEntryAt lists head place e → IsProvisionalEntry w c asked (take (head + 1) steps) e
 
   -- the same of each entry in the list of the newest goal, after that goal was popped
-  abbrev pub AreLeft : m.World → Bool → C → List Asked → List (m.Goal × PathKind) → List (ProvisionalEntry I R) → Type 0
-  AreLeft w met c asked steps left = (place : ℕ) (e : ProvisionalEntry I R) → slice_get left place ≡ Some e → IsProvisionalEntry w met c asked steps e
+  abbrev pub AreLeft : m.World → C → List Asked → List (m.Goal × PathKind) → List (ProvisionalEntry I R) → Type 0
+  AreLeft w c asked steps left = (place : ℕ) (e : ProvisionalEntry I R) → slice_get left place ≡ Some e → IsProvisionalEntry w c asked steps e
 
   -- their results depend on no limit, except through answers that were known before
   abbrev pub AreEntriesWithin : m.World → List (m.Goal × m.Answer) → C → List (Vec (ProvisionalEntry I R)) → Type 0

@@ -113,21 +113,17 @@ module _ {C I R F : Type 0} (m : Meaning C I R F) where
       (before : List (m.Goal × m.Answer)) → met ≡ false → AreLastWithin m (m.world c) before c es → IsLastWithin m (m.world c) before c entry → AreKeptWithin m (m.world c) before c old lists
       → AreKeptWithin m (m.world c) before d new more × IsWithin m (m.world c) before (m.goal_of c entry.input) (m.answer_of d r)
 
-  -- if no overflow was met, plain recursion on each goal of the stack descends to this one, in chains of any length
-  abbrev pub AllDescendTo : C → List (StackEntry I R) → I → Bool → Type 0
-  AllDescendTo c es input met = met ≡ false → (limit : ℕ) → AllDescend m (m.world c) limit (steps_of m c es) (m.goal_of c input)
-
   -- the entries in these lists are entries over the stack
-  abbrev pub AreEntriesOver : C → List (StackEntry I R) → List Asked → Bool → List (Vec (ProvisionalEntry I R)) → Type 0
-  AreEntriesOver c es asked met lists = AreProvisional m (m.world c) met c asked (steps_of m c es) lists
+  abbrev pub AreEntriesOver : C → List (StackEntry I R) → List Asked → List (Vec (ProvisionalEntry I R)) → Type 0
+  AreEntriesOver c es asked lists = AreProvisional m (m.world c) c asked (steps_of m c es) lists
 
   -- the entries afterwards are entries over the stack as it was in the context c
-  abbrev pub AreEntriesStill : C → List (StackEntry I R) → C → List Asked → Bool → List (Vec (ProvisionalEntry I R)) → Type 0
-  AreEntriesStill c es d asked met lists = AreProvisional m (m.world c) met d asked (steps_of m c es) lists
+  abbrev pub AreEntriesStill : C → List (StackEntry I R) → C → List Asked → List (Vec (ProvisionalEntry I R)) → Type 0
+  AreEntriesStill c es d asked lists = AreProvisional m (m.world c) d asked (steps_of m c es) lists
 
   -- the entries of a goal that was popped are entries over the stack with the goal, which was reached by a step of this kind
-  abbrev pub AreLeftOver : C → List (StackEntry I R) → I → PathKind → C → List Asked → Bool → List (ProvisionalEntry I R) → Type 0
-  AreLeftOver c es input k d asked met left = AreLeft m (m.world c) met d asked (steps_of m c es ++ (m.goal_of c input, k) ∷ []) left
+  abbrev pub AreLeftOver : C → List (StackEntry I R) → I → PathKind → C → List Asked → List (ProvisionalEntry I R) → Type 0
+  AreLeftOver c es input k d asked left = AreLeft m (m.world c) d asked (steps_of m c es ++ (m.goal_of c input, k) ∷ []) left
 
   -- the result depends on no limit, if no entry does
   abbrev pub IsWithinAsEntries : C → List (Vec (ProvisionalEntry I R)) → I → R → Type 0

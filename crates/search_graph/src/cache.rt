@@ -1,6 +1,6 @@
 //! Results that hold whatever is being evaluated.
 
-ghost use Rattle.std.specs.Prelude.{◌≡◌, ◌↔◌, ◌+◌, ◌<◌, ◌≤◌, ◌⊎◌, [], ℕ, All, length, get_or, IfOk, IfErr, OnOk, OnErr, IfSome, IfNone, IsTrue, Some, None, nat_eq, slice_get, true, false};
+ghost use Rattle.std.specs.Prelude.{◌≡◌, ◌↔◌, ◌+◌, ◌<◌, ◌≤◌, ◌⊎◌, [], ℕ, All, length, get_or, IfOk, OnOk, OnErr, IfSome, IfNone, IsTrue, Some, None, nat_eq, slice_get, true, false};
 ghost use Rattle.std.proofs.Props.{props};
 ghost use Rattle.indexmap.specs.IndexMap.{ContainsKey};
 ghost use Rattle.search_graph.specs.declared.newest.Chain.{Chain};
@@ -22,7 +22,6 @@ use crate::stack::NestedGoal;
 use indexmap::{IndexMap, IndexSet};
 use search_paths::{NestedGoals, PathKind, Span};
 use std::alloc::{AllocError, Global};
-use type_terms::Fault;
 
 /// A result that rests on no goal of the stack. `CacheEntry` of `rustc_type_ir::search_graph`.
 #[derive(Drop)]
@@ -140,8 +139,8 @@ impl<D: Delegate> CachedResults<D> {
         }
     }
 
-    /// The number of a goal, by one hash of its input unless the goal is new. It fails where `copy_input` fails.
-    pub fn number_of(&mut self, cx: &D::Cx, input: &InputOf<D>) -> Result<usize, GraphFault>
+    /// The number of a goal, by one hash of its input unless the goal is new. It fails if memory is refused.
+    pub fn number_of(&mut self, cx: &D::Cx, input: &InputOf<D>) -> Result<usize, AllocError>
         ensures number { IfOk result (λ number. slice_get self.new.goals.keys number ≡ Some input.now) }
         ensures place { IfOk result (λ number. IsNumberOf D.Cx.Input.eq self.new.goals.keys input.now number) }
         ensures others { KeepsNumbers D.Cx.Input.eq self.old.goals.keys self.new.goals.keys }
@@ -150,14 +149,13 @@ impl<D: Delegate> CachedResults<D> {
         ensures entries { self.new.entries ≡ self.old.entries }
         ensures asked { self.new.asked ≡ self.old.asked }
         ensures results { KeepsResults self.old.entries.items self.new.entries.items }
-        ensures no_conflict { result ≡ Err GraphFault.Conflict → ⊥ }
-        ensures in_order { result ≡ Err GraphFault.Protocol → ⊥ }
-        ensures room { result ≡ Err GraphFault.Full → ⊥ }
     {
         if let Some(number) = self.goals.get_index_of(input) {
             return Ok(number);
         }
-        let key = cx.copy_input(input)?;
+        let Ok(key) = cx.copy_input(input) else {
+            return Err(AllocError);
+        };
         let (number, _) = self.goals.insert_full(key)?;
         Ok(number)
     }
@@ -355,13 +353,13 @@ impl<D: Delegate> CachedResults<D> {
         }
     }
 
-    /// A copy of the result at an index, with the depth that it needed and whether there was an overflow. The only fault is `Memory`.
+    /// A copy of the result at an index, with the depth that it needed and whether there was an overflow.
     pub(crate) fn get(
         &self,
         cx: &D::Cx,
         place: usize,
         input: &InputOf<D>,
-    ) -> Result<Cached<ResultOf<D>>, Fault>
+    ) -> Result<Cached<ResultOf<D>>, AllocError>
         requires cache { AreCached D.meaning (D.meaning.world cx.now) cx.now self.now.entries.items }
         requires place { (e : _) × (slice_get self.now.entries.items place ≡ Some e) × (e.input ≡ input.now) }
         ensures result { IfOk result
@@ -369,10 +367,11 @@ impl<D: Delegate> CachedResults<D> {
         ensures kept { IfOk result (λ r. IsKeptResult D.meaning cx.now input.now r.result r.depth r.encountered_overflow) }
         ensures within { IfOk result (λ r. IsWithinAsCached D.meaning cx.now self.now.entries.items input.now r.result) }
         ensures entry { IfOk result (IsUseOf self.now.entries.items place) }
-        ensures memory { IfErr result (λ fault. fault ≡ Fault.Memory) }
     {
         let entry = &self.entries[place];
-        let copy = cx.copy_result(&entry.result)?;
+        let Ok(copy) = cx.copy_result(&entry.result) else {
+            return Err(AllocError);
+        };
         Ok(Cached {
             result: copy,
             depth: entry.depth,

@@ -10,7 +10,7 @@ ghost use Rattle.search_graph.specs.Promised.FrameBound.{frame_bound};
 ghost use Rattle.search_graph.specs.Bound.{question_bound, counted_before, IsCounted};
 ghost use Rattle.search_paths.specs.KeptPaths.{AreBelow, indices};
 ghost use Rattle.search_graph.specs.Stack.{steps_of, span_of_newest, IsStack, IsEntry, AreCached, IfUsable, IfUsableAlone};
-ghost use Rattle.search_graph.specs.Question.{AllDescendTo, AreEntriesOver, AreEntriesStill, AreLeftOver, IsReplyOver, IsRunOver, IsFaithfulOver, IsUntouchedOver, IsNotPlainOver, AreFramesWithin, StaysWithin};
+ghost use Rattle.search_graph.specs.Question.{AreEntriesOver, AreEntriesStill, AreLeftOver, IsReplyOver, IsRunOver, IsFaithfulOver, IsUntouchedOver, IsNotPlainOver, AreFramesWithin, StaysWithin};
 ghost use Rattle.search_graph.specs.Unlimited.{SearchStaysWithin, SearchRunsWithin};
 
 use crate::cache::CachedResults;
@@ -84,14 +84,11 @@ pub(crate) fn evaluate<D: Delegate>(
 ) -> Outcome<D>
     requires stack { IsStack D.meaning (D.meaning.world cx.old) [] cx.old search.old.stack.items }
     requires cache { AreCached D.meaning (D.meaning.world cx.old) cx.old cache.old.entries.items }
-    requires entries { AreEntriesOver D.meaning cx.old search.old.stack.items cache.old.asked.items search.old.overflow_met search.old.entries.lists.items }
-    requires descends { AllDescendTo D.meaning cx.old search.old.stack.items input search.old.overflow_met }
+    requires entries { AreEntriesOver D.meaning cx.old search.old.stack.items cache.old.asked.items search.old.entries.lists.items }
     requires input { D.meaning.IsInput cx.old input }
     ensures keeps { KeepsContext D.meaning cx.old cx.new }
     ensures stack { OnOk result (search.new.stack.items ≡ search.old.stack.items) }
-    ensures entries { OnOk result
-        (AreEntriesStill D.meaning cx.old search.old.stack.items cx.new cache.new.asked.items search.new.overflow_met search.new.entries.lists.items) }
-    ensures calm { OnOk result (search.new.overflow_met ≡ false → search.old.overflow_met ≡ false) }
+    ensures entries { OnOk result (AreEntriesStill D.meaning cx.old search.old.stack.items cx.new cache.new.asked.items search.new.entries.lists.items) }
     ensures cache { AreCached D.meaning (D.meaning.world cx.new) cx.new cache.new.entries.items }
     ensures goals { KeepsNumbers D.Cx.Input.eq cache.old.goals.keys cache.new.goals.keys }
     ensures results { KeepsResults cache.old.entries.items cache.new.entries.items }
@@ -146,15 +143,12 @@ fn evaluate_new<D: Delegate>(
 ) -> Outcome<D>
     requires stack { IsStack D.meaning (D.meaning.world cx.old) [] cx.old search.old.stack.items }
     requires cache { AreCached D.meaning (D.meaning.world cx.old) cx.old cache.old.entries.items }
-    requires entries { AreEntriesOver D.meaning cx.old search.old.stack.items cache.old.asked.items search.old.overflow_met search.old.entries.lists.items }
-    requires descends { AllDescendTo D.meaning cx.old search.old.stack.items input search.old.overflow_met }
+    requires entries { AreEntriesOver D.meaning cx.old search.old.stack.items cache.old.asked.items search.old.entries.lists.items }
     requires input { D.meaning.IsInput cx.old input }
     requires number { IsNumberOf D.Cx.Input.eq cache.old.goals.keys input number }
     ensures keeps { KeepsContext D.meaning cx.old cx.new }
     ensures stack { OnOk result (search.new.stack.items ≡ search.old.stack.items) }
-    ensures entries { OnOk result
-        (AreEntriesStill D.meaning cx.old search.old.stack.items cx.new cache.new.asked.items search.new.overflow_met search.new.entries.lists.items) }
-    ensures calm { OnOk result (search.new.overflow_met ≡ false → search.old.overflow_met ≡ false) }
+    ensures entries { OnOk result (AreEntriesStill D.meaning cx.old search.old.stack.items cx.new cache.new.asked.items search.new.entries.lists.items) }
     ensures cache { AreCached D.meaning (D.meaning.world cx.new) cx.new cache.new.entries.items }
     ensures goals { KeepsNumbers D.Cx.Input.eq cache.old.goals.keys cache.new.goals.keys }
     ensures results { KeepsResults cache.old.entries.items cache.new.entries.items }
@@ -243,22 +237,17 @@ fn run_once<D: Delegate>(
 >
     requires stack { IsStack D.meaning (D.meaning.world cx.old) [] cx.old search.old.stack.items }
     requires cache { AreCached D.meaning (D.meaning.world cx.old) cx.old cache.old.entries.items }
-    requires entries { AreEntriesOver D.meaning cx.old search.old.stack.items cache.old.asked.items search.old.overflow_met search.old.entries.lists.items }
-    requires descends { AllDescendTo D.meaning cx.old search.old.stack.items entry.input search.old.overflow_met }
+    requires entries { AreEntriesOver D.meaning cx.old search.old.stack.items cache.old.asked.items search.old.entries.lists.items }
     requires entry { IsEntry D.meaning (D.meaning.world cx.old) (steps_of D.meaning cx.old search.old.stack.items) cx.old entry }
     requires below { AreBelow (length search.old.stack.items) (indices earlier.heads.items) }
     requires span { entry.span ≡ covered (span_of_newest search.old.stack.items) (one_goal entry.number) }
     requires nested { AreInRange cache.old.asked.items earlier.nested_goals }
     requires depth { earlier.encountered_overflow ≡ false → earlier.required_depth ≤ depth }
-    requires calm { search.old.overflow_met ≡ false → earlier.encountered_overflow ≡ false }
     requires earlier { IsUntouchedOver D.meaning cx.old search.old.stack.items entry.input (depth + 1) earlier }
     ensures keeps { KeepsContext D.meaning cx.old cx.new }
     ensures stack { OnOk result (search.new.stack.items ≡ search.old.stack.items) }
-    ensures entries { OnOk result
-        (AreEntriesStill D.meaning cx.old search.old.stack.items cx.new cache.new.asked.items search.new.overflow_met search.new.entries.lists.items) }
-    ensures left { IfOk result
-        (λ p. AreLeftOver D.meaning cx.old search.old.stack.items entry.input entry.step_kind cx.new cache.new.asked.items search.new.overflow_met p.2.items) }
-    ensures calm { IfOk result (λ p. search.new.overflow_met ≡ false → (search.old.overflow_met ≡ false) × (p.1.dependencies.encountered_overflow ≡ false)) }
+    ensures entries { OnOk result (AreEntriesStill D.meaning cx.old search.old.stack.items cx.new cache.new.asked.items search.new.entries.lists.items) }
+    ensures left { IfOk result (λ p. AreLeftOver D.meaning cx.old search.old.stack.items entry.input entry.step_kind cx.new cache.new.asked.items p.2.items) }
     ensures cache { AreCached D.meaning (D.meaning.world cx.new) cx.new cache.new.entries.items }
     ensures goals { KeepsNumbers D.Cx.Input.eq cache.old.goals.keys cache.new.goals.keys }
     ensures results { KeepsResults cache.old.entries.items cache.new.entries.items }
@@ -293,8 +282,6 @@ fn run_once<D: Delegate>(
             Turn::Ask(input, step_kind) => {
                 let overflowed = dependencies.encountered_overflow;
                 let nested = ask(search, cache, cx, input, step_kind, depth, overflowed)?;
-                let told = nested.dependencies.encountered_overflow;
-                search.overflow_met = is_met(search.overflow_met, told);
                 let is_open = candidates.open;
                 request = hear::<D>(
                     &mut frame,
@@ -337,14 +324,11 @@ fn ask<D: Delegate>(
 ) -> Outcome<D>
     requires stack { IsStack D.meaning (D.meaning.world cx.old) [] cx.old search.old.stack.items }
     requires cache { AreCached D.meaning (D.meaning.world cx.old) cx.old cache.old.entries.items }
-    requires entries { AreEntriesOver D.meaning cx.old search.old.stack.items cache.old.asked.items search.old.overflow_met search.old.entries.lists.items }
-    requires descends { AllDescendTo D.meaning cx.old search.old.stack.items input search.old.overflow_met }
+    requires entries { AreEntriesOver D.meaning cx.old search.old.stack.items cache.old.asked.items search.old.entries.lists.items }
     requires input { D.meaning.IsInput cx.old input }
     ensures keeps { KeepsContext D.meaning cx.old cx.new }
     ensures stack { OnOk result (search.new.stack.items ≡ search.old.stack.items) }
-    ensures entries { OnOk result
-        (AreEntriesStill D.meaning cx.old search.old.stack.items cx.new cache.new.asked.items search.new.overflow_met search.new.entries.lists.items) }
-    ensures calm { OnOk result (search.new.overflow_met ≡ false → search.old.overflow_met ≡ false) }
+    ensures entries { OnOk result (AreEntriesStill D.meaning cx.old search.old.stack.items cx.new cache.new.asked.items search.new.entries.lists.items) }
     ensures cache { AreCached D.meaning (D.meaning.world cx.new) cx.new cache.new.entries.items }
     ensures goals { KeepsNumbers D.Cx.Input.eq cache.old.goals.keys cache.new.goals.keys }
     ensures results { KeepsResults cache.old.entries.items cache.new.entries.items }

@@ -58,25 +58,12 @@ impl From<Fault> for Stop {
 }
 
 impl From<AllocError> for Stop {
-    ghost use Rattle.search_graph.specs.declared.fault.Stop.TheVariants.{Fault as Refused, Exhausted as GivenUp};
-    ghost use Rattle.search_graph.specs.declared.fault.GraphFault.TheVariants.{Full as FullFault, Conflict as ConflictFault, Protocol as ProtocolFault};
+    ghost use Rattle.search_graph.specs.declared.fault.Stop.TheVariants.{Fault as Refused};
+    ghost use Rattle.search_graph.specs.declared.fault.GraphFault.TheVariants.{Memory};
 
-    ghost from_gives = { λ _ stop. (stop ≡ GivenUp → ⊥) × (stop ≡ Refused ConflictFault → ⊥) × (stop ≡ Refused ProtocolFault → ⊥)
-        × (stop ≡ Refused FullFault → ⊥) };
+    ghost from_gives = { λ _ stop. stop ≡ Refused Memory };
 
     fn from(_: AllocError) -> Self {
-        Stop::Fault(GraphFault::Memory)
-    }
-}
-
-impl<T: Drop> From<AllocFailed<T>> for Stop {
-    ghost use Rattle.search_graph.specs.declared.fault.Stop.TheVariants.{Fault as Refused, Exhausted as GivenUp};
-    ghost use Rattle.search_graph.specs.declared.fault.GraphFault.TheVariants.{Full as FullFault, Conflict as ConflictFault, Protocol as ProtocolFault};
-
-    ghost from_gives = { λ _ stop. (stop ≡ GivenUp → ⊥) × (stop ≡ Refused ConflictFault → ⊥) × (stop ≡ Refused ProtocolFault → ⊥)
-        × (stop ≡ Refused FullFault → ⊥) };
-
-    fn from(_: AllocFailed<T>) -> Self {
         Stop::Fault(GraphFault::Memory)
     }
 }
@@ -96,9 +83,9 @@ impl From<Fault> for GraphFault {
 }
 
 impl From<AllocError> for GraphFault {
-    ghost use Rattle.search_graph.specs.declared.fault.GraphFault.TheVariants.{Full as FullFault, Conflict as ConflictFault, Protocol as ProtocolFault};
+    ghost use Rattle.search_graph.specs.declared.fault.GraphFault.TheVariants.{Memory};
 
-    ghost from_gives = { λ _ e. (e ≡ ConflictFault → ⊥) × (e ≡ ProtocolFault → ⊥) × (e ≡ FullFault → ⊥) };
+    ghost from_gives = { λ _ e. e ≡ Memory };
 
     fn from(_: AllocError) -> Self {
         GraphFault::Memory
@@ -106,9 +93,9 @@ impl From<AllocError> for GraphFault {
 }
 
 impl<T: Drop> From<AllocFailed<T>> for GraphFault {
-    ghost use Rattle.search_graph.specs.declared.fault.GraphFault.TheVariants.{Full as FullFault, Conflict as ConflictFault, Protocol as ProtocolFault};
+    ghost use Rattle.search_graph.specs.declared.fault.GraphFault.TheVariants.{Memory};
 
-    ghost from_gives = { λ _ e. (e ≡ ConflictFault → ⊥) × (e ≡ ProtocolFault → ⊥) × (e ≡ FullFault → ⊥) };
+    ghost from_gives = { λ _ e. e ≡ Memory };
 
     fn from(_: AllocFailed<T>) -> Self {
         GraphFault::Memory

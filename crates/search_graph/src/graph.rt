@@ -10,6 +10,7 @@ ghost use Rattle.search_graph.specs.Bound.{IsCounted, counted_before};
 ghost use Rattle.search_graph.specs.Cache.{AreJustified, AreConsistent, KeepsResults, HasConflict, IsKnown, IfKnown};
 ghost use Rattle.search_graph.specs.Question.{AreFramesWithin, IsWithinKnown};
 
+use crate::budget::Budget;
 use crate::delegate::{Delegate, InputOf, ResultOf};
 use crate::evaluation::evaluate_root;
 use crate::fault::GraphFault;
@@ -186,7 +187,8 @@ impl<D: Delegate> SearchGraph<D> {
     {
         let depth = self.root_depth;
         let results = &mut cache.results;
-        let before = self.search.begin_call();
+        self.search.budget = Budget::after(self.search.spent);
+        let before = self.search.budget.counted;
         match evaluate_root(&mut self.search, results, cx, input, step_kind, depth) {
             Ok(evaluation) => {
                 self.search.spent = self.search.budget.counted.max(before);

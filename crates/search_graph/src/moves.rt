@@ -62,47 +62,29 @@ fn move_entry<D: Delegate>(
     ensures moved { OnOk result (AreMoved stack.now (entry ∷ []) step_kind ended.now ended_reach asked entries.old.lists.items entries.new.lists.items) }
     ensures goals { length entries.new.lists.items ≡ length entries.old.lists.items }
 {
-    let ProvisionalEntry {
-        input,
-        number,
-        result,
-        heads,
-        kind,
-        encountered_overflow,
-        required_depth,
-        reach,
-        asked: _,
-    } = entry;
-    let ended_overflow = ended.dependencies.encountered_overflow;
-    let encountered_overflow = is_met(encountered_overflow, ended_overflow);
-    let reach = reach.min(ended_reach);
-    let mut heads = heads;
-    let read = take_head(&mut heads, stack.len()).unwrap_or(PathsToNested::empty());
-    rest_through(&mut heads, &ended.dependencies.heads, read)?;
-    let Some(next) = nearest_head(&heads) else {
+    let mut entry = entry;
+    let read = take_head(&mut entry.heads, stack.len()).unwrap_or(PathsToNested::empty());
+    rest_through(&mut entry.heads, &ended.dependencies.heads, read)?;
+    let Some(next) = nearest_head(&entry.heads) else {
         return Ok(());
     };
-    let kind = kind_of_path(stack, next, step_kind.extend(kind));
+    let kind = kind_of_path(stack, next, step_kind.extend(entry.kind));
     if kind == PathKind::ForcedAmbiguity {
         return Ok(());
     }
+    let reach = entry.reach.min(ended_reach);
     let list = &entries.lists[next];
-    if find_among::<D>(list, number, &input, kind, required_depth).is_some()
-        && find_among::<D>(list, number, &input, kind, reach).is_some()
+    if find_among::<D>(list, entry.number, &entry.input, kind, entry.required_depth).is_some()
+        && find_among::<D>(list, entry.number, &entry.input, kind, reach).is_some()
     {
         return Ok(());
     }
-    let moved = ProvisionalEntry {
-        input,
-        number,
-        result,
-        heads,
-        kind,
-        encountered_overflow,
-        required_depth,
-        reach,
-        asked,
-    };
-    entries.leave(next, moved)?;
+    let ended_overflow = ended.dependencies.encountered_overflow;
+    let encountered_overflow = is_met(entry.encountered_overflow, ended_overflow);
+    entry.kind = kind;
+    entry.encountered_overflow = encountered_overflow;
+    entry.reach = reach;
+    entry.asked = asked;
+    entries.leave(next, entry)?;
     Ok(())
 }

@@ -9,7 +9,6 @@ ghost use Rattle.search_graph.specs.Chain.{AreInRange, AreInRanges, IsUsableAt, 
 ghost use Rattle.search_graph.specs.Meaning.{KeepsContext};
 ghost use Rattle.search_paths.specs.Heads.{RestsOn};
 ghost use Rattle.search_paths.specs.KeptPaths.{indices, AreBelow};
-ghost use Rattle.search_graph.specs.Bound.{uncached_questions_limit, counted_before, least_share, spare_of};
 ghost use Rattle.search_graph.specs.Cache.{known_results, HasConflict, IsNumberOf, KeepsResults, IsReplyOf, AddsAsked, AddsEvaluation, SaysSame};
 ghost use Rattle.search_graph.specs.Plain.{IsNotPlain};
 ghost use Rattle.search_graph.specs.Stack.{place_of, oldest_of, span_of_newest, IsStack, IsProvisional, IsUnread, IsSettled, AreCached, IsOnStack, IsClosedBy};
@@ -29,6 +28,7 @@ use bitflags::Flags;
 use indexmap::IndexMap;
 use search_paths::{Dependencies, EvaluationResult, NestedGoals, PathKind, PathsToNested, Span};
 use std::alloc::{AllocError, Global};
+use std::mem;
 use type_terms::Fault;
 
 /// The result of a nested goal, with what it depends on.
@@ -52,8 +52,6 @@ pub struct Search<D: Delegate> {
     pub ghost listed: { length entries.lists.items ≡ length stack.items } by { Prim.hlevel props },
     /// Whether the limit of the depth or of the runs gave a result, goals ran out, or a call was given up.
     pub limits_met: bool,
-    /// Whether a nested goal reported an overflow by depth in this call from outside.
-    pub(crate) overflow_met: bool,
     /// The number of frames that were started, at most `u64::MAX`.
     pub frames: u64,
     /// What was counted up to this call from outside, and how far it may go.
@@ -70,7 +68,6 @@ impl<D: Delegate> Drop for Search<D> {
             positions: _,
             entries: _,
             limits_met: _,
-            overflow_met: _,
             frames: _,
             budget: _,
             spent: _,
@@ -93,7 +90,6 @@ impl<D: Delegate> Search<D> {
             positions: IndexMap::new(alloc),
             entries: ProvisionalEntries::new(alloc),
             limits_met: false,
-            overflow_met: false,
             frames: 0,
             budget: Budget::after(0),
             spent: 0,
@@ -110,45 +106,6 @@ impl<D: Delegate> Search<D> {
         self.stack.clear();
         self.positions.clear();
         self.entries.clear();
-    }
-
-    /// Begins a call from outside. No goal has ended in it, and no overflow was met. Returns what earlier calls count for it.
-    pub(crate) fn begin_call(&mut self) -> usize
-        ensures before { result ≡ counted_before self.old.spent }
-        ensures count { self.new.budget.counted ≡ result }
-        ensures spare { least_share ≤ spare_of result → self.new.budget.allowance ≡ uncached_questions_limit - spare_of result }
-        ensures no_spare { spare_of result < least_share → self.new.budget.allowance ≡ uncached_questions_limit }
-        ensures unshared { self.new.budget.sharing ≡ 0 }
-        ensures spent { self.new.spent ≡ self.old.spent }
-        ensures calm { self.new.overflow_met ≡ false }
-        ensures stack { self.new.stack.items ≡ self.old.stack.items }
-        ensures entries { self.new.entries ≡ self.old.entries }
-        ensures frames { self.new.frames ≡ self.old.frames }
-        ensures limits { self.new.limits_met ≡ self.old.limits_met }
-    {
-        self.budget = Budget::after(self.spent);
-        self.overflow_met = false;
-        self.budget.counted
-    }
-
-    /// Adds `cost` for a goal that ended, if the goal is uncached and has not run out. Returns whether the call may continue.
-    pub(crate) fn count_end(&mut self, is_open: bool, cost: usize) -> bool
-        ensures limit { is_open ≡ true → self.old.budget.counted < self.old.budget.allowance → result ≡ true
-            → self.new.budget.counted < uncached_questions_limit }
-        ensures count { is_open ≡ true → self.old.budget.counted < self.old.budget.allowance → result ≡ true
-            → self.new.budget.counted ≡ self.old.budget.counted + cost }
-        ensures uncounted { is_open ≡ false → (result ≡ true) × (self.new.budget ≡ self.old.budget) }
-        ensures unwound { self.old.budget.allowance ≤ self.old.budget.counted → (result ≡ true) × (self.new.budget ≡ self.old.budget) }
-        ensures first { is_open ≡ true → self.old.budget.counted < self.old.budget.allowance → self.old.budget.sharing ≡ 0
-            → self.old.budget.allowance ≤ self.new.budget.counted → self.new.budget.sharing ≡ length self.old.stack.items }
-        ensures stack { self.new.stack.items ≡ self.old.stack.items }
-        ensures entries { self.new.entries ≡ self.old.entries }
-        ensures met { self.new.overflow_met ≡ self.old.overflow_met }
-        ensures frames { self.new.frames ≡ self.old.frames }
-        ensures limits { self.new.limits_met ≡ self.old.limits_met }
-    {
-        let level = self.stack.len();
-        self.budget.count_end(level, is_open, cost)
     }
 
     /// Returns a range that contains the numbers of all goals of the stack.
@@ -192,7 +149,6 @@ impl<D: Delegate> Search<D> {
         ensures stack { OnOk result (self.new.stack.items ≡ self.old.stack.items ++ entry ∷ []) }
         ensures none { OnOk result ((list : _) × (self.new.entries.lists.items ≡ self.old.entries.lists.items ++ list ∷ []) × (list.items ≡ [])) }
         ensures err { OnErr result (self.new.stack.items ≡ self.old.stack.items) }
-        ensures met { self.new.overflow_met ≡ self.old.overflow_met }
         ensures frames { self.new.frames ≡ min (self.old.frames + 1) (2 ^ 64 - 1) }
         ensures rises { self.old.frames ≤ self.new.frames }
         ensures limits { self.new.limits_met ≡ self.old.limits_met }
@@ -214,7 +170,6 @@ impl<D: Delegate> Search<D> {
         ensures none { IfNone result (self.new.stack.items ≡ self.old.stack.items) }
         ensures some { IsSome result ↔ (0 < length self.old.stack.items) }
         ensures ended { IfSome result (λ p. self.old.entries.lists.items ≡ self.new.entries.lists.items ++ p.1 ∷ []) }
-        ensures met { self.new.overflow_met ≡ self.old.overflow_met }
         ensures frames { self.new.frames ≡ self.old.frames }
         ensures limits { self.new.limits_met ≡ self.old.limits_met }
     {
@@ -264,7 +219,7 @@ impl<D: Delegate> Search<D> {
             .find(&self.stack, number, input, step_kind, depth)
     }
 
-    /// Returns the entry at this position as the result of the goal. Fails if memory is refused, or if `copy_result` fails.
+    /// Returns the entry at this position as the result of the goal. Fails if memory is refused.
     pub fn use_entry(
         &self,
         cache: &CachedResults<D>,
@@ -272,8 +227,8 @@ impl<D: Delegate> Search<D> {
         at: (usize, usize),
         input: &InputOf<D>,
         step_kind: PathKind,
-    ) -> Evaluation<D>
-        requires entries { AreEntriesOver D.meaning cx.now self.now.stack.items cache.now.asked.items self.now.overflow_met self.now.entries.lists.items }
+    ) -> Result<EvaluationResult<ResultOf<D>>, AllocError>
+        requires entries { AreEntriesOver D.meaning cx.now self.now.stack.items cache.now.asked.items self.now.entries.lists.items }
         requires place { (number : ℕ) × (depth : ℕ)
             × IsServingAt self.now.entries.lists.items self.now.stack.items number input.now step_kind depth at.0 at.1 }
         ensures overflow { IfOk result (λ o. (e : _) → IsEntryAt self.now.entries.lists.items at.0 at.1 e
@@ -287,13 +242,12 @@ impl<D: Delegate> Search<D> {
         ensures faithful { IfOk result (λ o. (e : _) → IsEntryAt self.now.entries.lists.items at.0 at.1 e
             → IsFaithfulOver D.meaning cx.now self.now.stack.items input.now (e.reach + 1) cx.now o) }
         ensures within { IfOk result (λ o. IsWithinAsEntries D.meaning cx.now self.now.entries.lists.items input.now o.result) }
-        ensures no_conflict { result ≡ Err GraphFault.Conflict → ⊥ }
-        ensures in_order { result ≡ Err GraphFault.Protocol → ⊥ }
-        ensures room { result ≡ Err GraphFault.Full → ⊥ }
     {
         let (head, place) = at;
         let entry = &self.entries.lists[head][place];
-        let answer = cx.copy_result(&entry.result)?;
+        let Ok(answer) = cx.copy_result(&entry.result) else {
+            return Err(AllocError);
+        };
         let mut dependencies = Dependencies::new(self.alloc);
         dependencies.encountered_overflow = entry.encountered_overflow;
         dependencies.required_depth = entry.required_depth;
@@ -309,7 +263,7 @@ impl<D: Delegate> Search<D> {
     }
 
     /// Stores the result of a goal in the list of its nearest head, which has the index `nearest`. Returns the same result, with the
-    /// nested goals in one list. Fails if memory is refused, or if `copy_result` fails.
+    /// nested goals in one list. Fails if memory is refused.
     ///
     /// `insert_provisional_cache` of `rustc_type_ir::search_graph`.
     pub(crate) fn leave(
@@ -319,8 +273,8 @@ impl<D: Delegate> Search<D> {
         nearest: usize,
         goal: NestedGoal<InputOf<D>>,
         evaluation: EvaluationResult<ResultOf<D>>,
-    ) -> Evaluation<D>
-        requires entries { AreEntriesOver D.meaning cx.now self.old.stack.items cache.old.asked.items self.old.overflow_met self.old.entries.lists.items }
+    ) -> Result<EvaluationResult<ResultOf<D>>, AllocError>
+        requires entries { AreEntriesOver D.meaning cx.now self.old.stack.items cache.old.asked.items self.old.entries.lists.items }
         requires input { D.meaning.IsInput cx.now goal.input }
         requires nested { AreInRange cache.old.asked.items evaluation.dependencies.nested_goals }
         requires result { IsResultOver D.meaning cx.now self.old.stack.items goal.input goal.step_kind evaluation }
@@ -328,8 +282,7 @@ impl<D: Delegate> Search<D> {
         requires place { nearest < length self.old.stack.items }
         requires nearest { RestsOn evaluation.dependencies.heads.items nearest × AreBelow (nearest + 1) (indices evaluation.dependencies.heads.items) }
         ensures left { OnOk result ((e : _) × (e.result ≡ evaluation.result) × AddsEntry self.old.entries.lists.items self.new.entries.lists.items nearest e) }
-        ensures entries { OnOk result
-            (AreEntriesOver D.meaning cx.now self.old.stack.items cache.new.asked.items self.old.overflow_met self.new.entries.lists.items) }
+        ensures entries { OnOk result (AreEntriesOver D.meaning cx.now self.old.stack.items cache.new.asked.items self.new.entries.lists.items) }
         ensures within { OnOk result
             (EntriesStayWithin D.meaning cx.now self.old.entries.lists.items goal.input evaluation.result self.new.entries.lists.items) }
         ensures reply { IfOk result (SaysSame evaluation) }
@@ -339,24 +292,10 @@ impl<D: Delegate> Search<D> {
         ensures cached { cache.new.entries ≡ cache.old.entries }
         ensures goals { cache.new.goals ≡ cache.old.goals }
         ensures stack { self.new.stack.items ≡ self.old.stack.items }
-        ensures met { self.new.overflow_met ≡ self.old.overflow_met }
         ensures frames { self.new.frames ≡ self.old.frames }
         ensures limits { self.new.limits_met ≡ self.old.limits_met }
-        ensures no_conflict { result ≡ Err GraphFault.Conflict → ⊥ }
-        ensures in_order { result ≡ Err GraphFault.Protocol → ⊥ }
-        ensures room { result ≡ Err GraphFault.Full → ⊥ }
     {
-        let EvaluationResult {
-            result: answer,
-            dependencies,
-        } = evaluation;
-        let Dependencies {
-            heads,
-            encountered_overflow,
-            required_depth,
-            nested_goals,
-            questions,
-        } = dependencies;
+        let mut evaluation = evaluation;
         let NestedGoal {
             number,
             input,
@@ -364,13 +303,18 @@ impl<D: Delegate> Search<D> {
             depth,
         } = goal;
         let kind = kind_of_path(&self.stack, nearest, step_kind);
-        let result = cx.copy_result(&answer)?;
-        let rests_on = Vec::from_slice(self.alloc, &heads)?;
+        let Ok(result) = cx.copy_result(&evaluation.result) else {
+            return Err(AllocError);
+        };
+        let rests_on = Vec::from_slice(self.alloc, &evaluation.dependencies.heads)?;
+        let none = NestedGoals::new(self.alloc);
+        let nested_goals = mem::replace(&mut evaluation.dependencies.nested_goals, none);
         let asked = cache.list(number, nested_goals)?;
+        let encountered_overflow = evaluation.dependencies.encountered_overflow;
         let least = if encountered_overflow {
             0
         } else {
-            required_depth
+            evaluation.dependencies.required_depth
         };
         let entry = ProvisionalEntry {
             input,
@@ -384,19 +328,12 @@ impl<D: Delegate> Search<D> {
             asked,
         };
         self.entries.leave(nearest, entry)?;
-        let mut nested_goals = NestedGoals::new(self.alloc);
-        nested_goals.add_cached(asked, cache.span_of(asked))?;
-        let dependencies = Dependencies {
-            heads,
-            encountered_overflow,
-            required_depth,
-            nested_goals,
-            questions,
-        };
-        Ok(EvaluationResult {
-            result: answer,
-            dependencies,
-        })
+        let span = cache.span_of(asked);
+        evaluation
+            .dependencies
+            .nested_goals
+            .add_cached(asked, span)?;
+        Ok(evaluation)
     }
 
     /// Moves the entries of a goal that ended to their next heads.
@@ -416,7 +353,6 @@ impl<D: Delegate> Search<D> {
         ensures moved { OnOk result (AreMoved self.old.stack.items left.items step_kind ended.now ended_reach asked
             self.old.entries.lists.items self.new.entries.lists.items) }
         ensures stack { self.new.stack.items ≡ self.old.stack.items }
-        ensures met { self.new.overflow_met ≡ self.old.overflow_met }
         ensures frames { self.new.frames ≡ self.old.frames }
         ensures limits { self.new.limits_met ≡ self.old.limits_met }
     {
@@ -483,7 +419,7 @@ impl<D: Delegate> Search<D> {
         }
     }
 
-    /// Returns the cached result at this index as the result of the goal. Fails if memory is refused, or if `copy_result` fails.
+    /// Returns the cached result at this index as the result of the goal. Fails if memory is refused.
     ///
     /// `lookup_global_cache` of `rustc_type_ir::search_graph`.
     pub fn use_cached(
@@ -492,7 +428,7 @@ impl<D: Delegate> Search<D> {
         cx: &D::Cx,
         place: usize,
         input: &InputOf<D>,
-    ) -> Evaluation<D>
+    ) -> Result<EvaluationResult<ResultOf<D>>, AllocError>
         requires cache { AreCached D.meaning (D.meaning.world cx.now) cx.now cache.now.entries.items }
         requires place { (e : _) × (slice_get cache.now.entries.items place ≡ Some e) × (e.input ≡ input.now) }
         ensures same { IfOk result (λ o. (e : _) → slice_get cache.now.entries.items place ≡ Some e → IsReplyOf e o) }
@@ -504,9 +440,6 @@ impl<D: Delegate> Search<D> {
         ensures faithful { IfOk result (λ o. (depth : ℕ) → (o.dependencies.encountered_overflow ≡ true → o.dependencies.required_depth ≡ depth)
             → IsFaithfulOver D.meaning cx.now self.now.stack.items input.now (depth + 1) cx.now o) }
         ensures within { IfOk result (λ o. IsWithinAsCached D.meaning cx.now cache.now.entries.items input.now o.result) }
-        ensures no_conflict { result ≡ Err GraphFault.Conflict → ⊥ }
-        ensures in_order { result ≡ Err GraphFault.Protocol → ⊥ }
-        ensures room { result ≡ Err GraphFault.Full → ⊥ }
     {
         let cached = cache.get(cx, place, input)?;
         let Cached {
@@ -537,7 +470,7 @@ impl<D: Delegate> Search<D> {
         number: usize,
         input: &InputOf<D>,
         step_kind: PathKind,
-    ) -> Evaluation<D>
+    ) -> Result<EvaluationResult<ResultOf<D>>, Fault>
         requires { D.meaning.IsInput cx.old input.now }
         ensures keeps { KeepsContext D.meaning cx.old cx.new }
         ensures stack { self.new.stack.items ≡ self.old.stack.items }
@@ -545,16 +478,13 @@ impl<D: Delegate> Search<D> {
         ensures noted { self.new.limits_met ≡ true }
         ensures answer { IfOk result (λ o. IsReplyOver D.meaning cx.old self.old.stack.items input.now step_kind o.dependencies.heads.items cx.new o.result) }
         ensures entries { self.new.entries ≡ self.old.entries }
-        ensures met { self.new.overflow_met ≡ self.old.overflow_met }
         ensures overflow { IfOk result (λ o. D.meaning.answer_of cx.new o.result
             ≡ D.meaning.stack_overflow (D.meaning.world cx.old) (D.meaning.goal_of cx.old input.now)) }
         ensures told { IfOk result (λ o. o.dependencies.encountered_overflow ≡ true) }
         ensures unread { IfOk result (λ o. o.dependencies.heads.items ≡ []) }
         ensures asked { IfOk result (λ o. AsksAlone number o.dependencies.nested_goals) }
         ensures depth { IfOk result (λ o. o.dependencies.required_depth ≡ 0) }
-        ensures no_conflict { result ≡ Err GraphFault.Conflict → ⊥ }
-        ensures in_order { result ≡ Err GraphFault.Protocol → ⊥ }
-        ensures full { result ≡ Err GraphFault.Full → D.meaning.IsFull cx.new }
+        ensures full { result ≡ Err Fault.Full → D.meaning.IsFull cx.new }
     {
         self.limits_met = true;
         let answer = D::stack_overflow_result(cx, input)?;
@@ -648,7 +578,7 @@ pub fn is_last_run<D: Delegate>(
 
 /// Caches the result of a goal if it depends on no goal of the stack. Returns the same result, with the goal among its nested goals.
 ///
-/// Fails if memory is refused, if `copy_result` fails, or if the result differs from a cached one of the goal (`Conflict`).
+/// Fails if memory is refused, or if the result differs from a cached one of the goal (`Conflict`).
 /// `insert_global_cache` of `rustc_type_ir::search_graph`.
 pub fn finish<D: Delegate>(
     alloc: Global,
@@ -686,63 +616,39 @@ pub fn finish<D: Delegate>(
     ensures in_order { result ≡ Err GraphFault.Protocol → ⊥ }
     ensures room { result ≡ Err GraphFault.Full → ⊥ }
 {
-    let EvaluationResult {
-        result: answer,
-        dependencies,
-    } = evaluation;
-    let Dependencies {
-        heads,
-        encountered_overflow,
-        required_depth,
-        nested_goals,
-        questions,
-    } = dependencies;
+    let mut evaluation = evaluation;
     let NestedGoal {
         number,
         input,
         step_kind,
         depth,
     } = goal;
-    if heads.is_empty() {
-        let kept_depth = if encountered_overflow {
-            depth
-        } else {
-            required_depth
-        };
-        let span = nested_goals.span.cover(Span::of(number));
-        let kept = NestedGoal {
-            number,
-            input,
-            step_kind,
-            depth: kept_depth,
-        };
-        let asked = cache.insert(cx, kept, &answer, encountered_overflow, nested_goals)?;
-        let mut nested_goals = NestedGoals::new(alloc);
-        nested_goals.add_cached(asked, span)?;
-        let dependencies = Dependencies {
-            heads,
-            encountered_overflow,
-            required_depth,
-            nested_goals,
-            questions,
-        };
-        return Ok(EvaluationResult {
-            result: answer,
-            dependencies,
-        });
+    if !evaluation.dependencies.heads.is_empty() {
+        // The result depends on goals of the stack, so it is not cached. After an overflow with many heads it is no provisional entry
+        // either.
+        evaluation.dependencies.nested_goals.add_goal(number)?;
+        return Ok(evaluation);
     }
-    // The result depends on goals of the stack, so it is not cached. After an overflow with many heads it is no provisional entry either.
-    let mut nested_goals = nested_goals;
-    nested_goals.add_goal(number)?;
-    let dependencies = Dependencies {
-        heads,
-        encountered_overflow,
-        required_depth,
-        nested_goals,
-        questions,
+    let encountered_overflow = evaluation.dependencies.encountered_overflow;
+    let kept_depth = if encountered_overflow {
+        depth
+    } else {
+        evaluation.dependencies.required_depth
     };
-    Ok(EvaluationResult {
-        result: answer,
-        dependencies,
-    })
+    let kept = NestedGoal {
+        number,
+        input,
+        step_kind,
+        depth: kept_depth,
+    };
+    let none = NestedGoals::new(alloc);
+    let nested_goals = mem::replace(&mut evaluation.dependencies.nested_goals, none);
+    let span = nested_goals.span.cover(Span::of(number));
+    let found = &evaluation.result;
+    let asked = cache.insert(cx, kept, found, encountered_overflow, nested_goals)?;
+    evaluation
+        .dependencies
+        .nested_goals
+        .add_cached(asked, span)?;
+    Ok(evaluation)
 }

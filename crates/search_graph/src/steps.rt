@@ -20,6 +20,8 @@ use crate::reads::CandidateReads;
 use crate::search::{Evaluation, Outcome, Search, finish, reach_of};
 use crate::stack::{Cycle, NestedGoal, StackEntry};
 use search_paths::{Dependencies, EvaluationResult, PathKind, PathsToNested, nearest_head};
+use std::alloc::AllocError;
+use type_terms::Fault;
 
 /// Returns the number of a goal, and a stored result of it that may be used at this depth: a provisional entry, or else a cached
 /// result.
@@ -30,9 +32,9 @@ pub(crate) fn look_up<D: Delegate>(
     input: &InputOf<D>,
     step_kind: PathKind,
     depth: usize,
-) -> Result<(usize, Option<EvaluationResult<ResultOf<D>>>), GraphFault>
+) -> Result<(usize, Option<EvaluationResult<ResultOf<D>>>), AllocError>
     requires cache { AreCached D.meaning (D.meaning.world cx.now) cx.now cache.old.entries.items }
-    requires entries { AreEntriesOver D.meaning cx.now search.now.stack.items cache.old.asked.items search.now.overflow_met search.now.entries.lists.items }
+    requires entries { AreEntriesOver D.meaning cx.now search.now.stack.items cache.old.asked.items search.now.entries.lists.items }
     ensures goals { KeepsNumbers D.Cx.Input.eq cache.old.goals.keys cache.new.goals.keys }
     ensures entries { cache.new.entries ≡ cache.old.entries }
     ensures asked_before { cache.new.asked ≡ cache.old.asked }
@@ -46,9 +48,6 @@ pub(crate) fn look_up<D: Delegate>(
     ensures within { IfOk result
         (λ r. IfSome r.1 (λ o. IsWithinAsKept D.meaning cx.now cache.old.entries.items search.now.entries.lists.items input.now o.result)) }
     ensures found { IfUsable cache.old.entries.items cache.old.asked.items search.now.stack.items input.now depth (IfOk result (λ r. IsSome r.1)) }
-    ensures no_conflict { result ≡ Err GraphFault.Conflict → ⊥ }
-    ensures in_order { result ≡ Err GraphFault.Protocol → ⊥ }
-    ensures room { result ≡ Err GraphFault.Full → ⊥ }
 {
     let number = cache.number_of(cx, input)?;
     if let Some(at) = search.find_entry(number, input, step_kind, depth) {
@@ -104,15 +103,12 @@ fn number_of_asking<D: Delegate>(
     cache: &mut CachedResults<D>,
     cx: &D::Cx,
     input: &InputOf<D>,
-) -> Result<usize, GraphFault>
+) -> Result<usize, AllocError>
     ensures asking { IfOk result (λ number. (asking : _)
         → slice_get search.now.stack.items (length search.now.stack.items - 1) ≡ Some asking → number ≡ asking.number) }
     ensures goals { KeepsNumbers D.Cx.Input.eq cache.old.goals.keys cache.new.goals.keys }
     ensures entries { cache.new.entries ≡ cache.old.entries }
     ensures asked { cache.new.asked ≡ cache.old.asked }
-    ensures no_conflict { result ≡ Err GraphFault.Conflict → ⊥ }
-    ensures in_order { result ≡ Err GraphFault.Protocol → ⊥ }
-    ensures room { result ≡ Err GraphFault.Full → ⊥ }
 {
     match search.stack.last() {
         Some(asking) => Ok(asking.number),
@@ -137,7 +133,6 @@ pub(crate) fn reply_with_overflow<D: Delegate>(
     ensures keeps { KeepsContext D.meaning cx.old cx.new }
     ensures stack { search.new.stack.items ≡ search.old.stack.items }
     ensures provisional { search.new.entries ≡ search.old.entries }
-    ensures met { search.new.overflow_met ≡ search.old.overflow_met }
     ensures cache { AreCached D.meaning (D.meaning.world cx.new) cx.new cache.new.entries.items }
     ensures goals { KeepsNumbers D.Cx.Input.eq cache.old.goals.keys cache.new.goals.keys }
     ensures entries { cache.new.entries ≡ cache.old.entries }
@@ -164,23 +159,20 @@ pub(crate) fn start_run<D: Delegate>(
     search: &mut Search<D>,
     cx: &mut D::Cx,
     entry: StackEntry<InputOf<D>, ResultOf<D>>,
-) -> Result<(D::Frame, Request<InputOf<D>, ResultOf<D>>), GraphFault>
+) -> Result<(D::Frame, Request<InputOf<D>, ResultOf<D>>), Fault>
     requires input { D.meaning.IsInput cx.old entry.input }
     requires span { entry.span ≡ covered (span_of_newest search.old.stack.items) (one_goal entry.number) }
     ensures keeps { KeepsContext D.meaning cx.old cx.new }
     ensures stack { OnOk result (search.new.stack.items ≡ search.old.stack.items ++ entry ∷ []) }
     ensures none { OnOk result ((list : _) × (search.new.entries.lists.items ≡ search.old.entries.lists.items ++ list ∷ []) × (list.items ≡ [])) }
     ensures begun { IfOk result (λ r. HasBegun D.meaning cx.old entry.input cx.new r.0 r.1) }
-    ensures met { search.new.overflow_met ≡ search.old.overflow_met }
     ensures counted { OnOk result (search.new.frames ≡ min (search.old.frames + 1) (2 ^ 64 - 1)) }
 
     // If the call fails, the frame may not have been started.
     ensures frames { search.new.frames ≤ search.old.frames + 1 }
     ensures rises { search.old.frames ≤ search.new.frames }
     ensures limits { search.new.limits_met ≡ search.old.limits_met }
-    ensures no_conflict { result ≡ Err GraphFault.Conflict → ⊥ }
-    ensures in_order { result ≡ Err GraphFault.Protocol → ⊥ }
-    ensures full { result ≡ Err GraphFault.Full → D.meaning.IsFull cx.new }
+    ensures full { result ≡ Err Fault.Full → D.meaning.IsFull cx.new }
 {
     let mut frame = D::start(cx, &entry.input)?;
     search.begin(entry)?;
@@ -214,7 +206,7 @@ pub(crate) fn hear<D: Delegate>(
     reads: &mut CandidateReads,
     is_open: bool,
     nested: EvaluationResult<ResultOf<D>>,
-) -> Result<Request<InputOf<D>, ResultOf<D>>, GraphFault>
+) -> Result<Request<InputOf<D>, ResultOf<D>>, Fault>
     requires due { IsDue D.meaning cx.old frame.old (Reply.Result nested.result) }
     requires reply { IsReply D.meaning cx.old (Reply.Result nested.result) }
     ensures keeps { KeepsContext D.meaning cx.old cx.new }
@@ -234,9 +226,7 @@ pub(crate) fn hear<D: Delegate>(
     ensures cached { OnOk result (IsPermutation
         (dependencies.old.nested_goals.cached.items ++ nested.dependencies.nested_goals.cached.items) dependencies.new.nested_goals.cached.items) }
     ensures span { OnOk result (dependencies.new.nested_goals.span ≡ covered dependencies.old.nested_goals.span nested.dependencies.nested_goals.span) }
-    ensures no_conflict { result ≡ Err GraphFault.Conflict → ⊥ }
-    ensures in_order { result ≡ Err GraphFault.Protocol → ⊥ }
-    ensures full { result ≡ Err GraphFault.Full → D.meaning.IsFull cx.new }
+    ensures full { result ≡ Err Fault.Full → D.meaning.IsFull cx.new }
 {
     let EvaluationResult {
         result: answer,
@@ -275,14 +265,12 @@ pub(crate) fn conclude<D: Delegate>(
         → IsProvisional D.meaning (D.meaning.world cx.now) [] (D.meaning.goal_of cx.now goal.input, PathKind.Inductive) [] cx.now evaluation.result }
     requires kept { evaluation.dependencies.heads.items ≡ []
         → IsKeptResult D.meaning cx.now goal.input evaluation.result goal.depth evaluation.dependencies.encountered_overflow }
-    requires entries { AreEntriesOver D.meaning cx.now search.old.stack.items cache.old.asked.items search.old.overflow_met search.old.entries.lists.items }
-    requires left { AreLeftOver D.meaning cx.now search.old.stack.items goal.input goal.step_kind cx.now cache.old.asked.items
-        search.old.overflow_met left.items }
+    requires entries { AreEntriesOver D.meaning cx.now search.old.stack.items cache.old.asked.items search.old.entries.lists.items }
+    requires left { AreLeftOver D.meaning cx.now search.old.stack.items goal.input goal.step_kind cx.now cache.old.asked.items left.items }
     requires result { IsResultOver D.meaning cx.now search.old.stack.items goal.input goal.step_kind evaluation }
     requires below { AreBelow (length search.old.stack.items) (indices evaluation.dependencies.heads.items) }
     requires faithful { IsFaithfulOver D.meaning cx.now search.old.stack.items goal.input (goal.depth + 1) cx.now evaluation }
-    ensures entries { OnOk result
-        (AreEntriesOver D.meaning cx.now search.old.stack.items cache.new.asked.items search.old.overflow_met search.new.entries.lists.items) }
+    ensures entries { OnOk result (AreEntriesOver D.meaning cx.now search.old.stack.items cache.new.asked.items search.new.entries.lists.items) }
     ensures entries_within { OnOk result
         (EntriesStayWithin D.meaning cx.now (search.old.entries.lists.items ++ left ∷ []) goal.input evaluation.result search.new.entries.lists.items) }
     ensures kept { OnOk result (evaluation.dependencies.heads.items ≡ []
@@ -302,7 +290,6 @@ pub(crate) fn conclude<D: Delegate>(
     ensures in_order { result ≡ Err (Stop.Fault GraphFault.Protocol) → ⊥ }
     ensures room { result ≡ Err (Stop.Fault GraphFault.Full) → ⊥ }
     ensures stack { search.new.stack.items ≡ search.old.stack.items }
-    ensures met { search.new.overflow_met ≡ search.old.overflow_met }
     ensures frames { search.new.frames ≡ search.old.frames }
     ensures limits { search.new.limits_met ≡ search.old.limits_met }
 {
@@ -311,7 +298,8 @@ pub(crate) fn conclude<D: Delegate>(
     let cost = D::cost_of(cx, &goal.input)
         .saturating_add(1)
         .saturating_mul(found.questions);
-    if !search.count_end(is_open, cost) {
+    let level = search.stack.len();
+    if !search.budget.count_end(level, is_open, cost) {
         return Err(Stop::Exhausted);
     }
     let step_kind = goal.step_kind;

@@ -16,17 +16,17 @@ use Rattle.search_graph.specs.Bound.{question_bound}
 use Rattle.search_graph.specs.Cache.{HasConflict, known_results}
 use Rattle.search_graph.specs.Question.{IsFaithfulOver, IsNotPlainOver, IsWithinAsStack, AllStayWithin}
 use Rattle.search_graph.specs.Faithful.{NeedsHead}
-use Rattle.search_graph.proofs.Errors.{err_passed, fault_passed, fault_goes_on, stop_refused, ok_not_err, OnOk-always}
+use Rattle.search_graph.proofs.Errors.{err_passed, fault_passed, fault_goes_on, memory_alone, full_passed, stop_refused, ok_not_err, OnOk-always}
 use Rattle.search_graph.proofs.Refusals.{IfOk-err, OnOk-err, IfOk-or}
 use Rattle.search_graph.proofs.Orders.{from_zero, within_more, less_within, none_started, one_started, none_counted, one_counted, counted_later, not_less}
 use Rattle.search_paths.proofs.HeadFacts.{indices-none, both_kept, both_below, below_more, below_last, root_alone}
 use Rattle.search_graph.proofs.Graphs.{IsStack-now, steps-now, IsEntry-now, run_ended, next_entry, IsAnswer-then, answer_of_run, running_next_counted, running_begun, running_other, running_done, asked_now, hears_other, hears_next, misstep_now, due_next, due_other, Keeps-refl, Keeps-trans, IsStack-push, steps_pushed, length-steps_of, AreCached-later, provisional_alone, overflow_answers, overflow_stands}
-use Rattle.search_graph.proofs.Faithfuls.{or_first, or_second, or_either, faithful_marked, asked_descends, not_plain_at_zero, run_plain_head, needs_not_plain, ends_not_plain, conflict_up, plain_first, plain_next_at, plain_done, untouched_first, untouched_needs_head, faithful_needs_head, faithful_taken, faithful_at_zero, kept_of_faithful, IsFaithful-less, reach_within}
+use Rattle.search_graph.proofs.Faithfuls.{or_first, or_either, faithful_marked, not_plain_at_zero, run_plain_head, needs_not_plain, ends_not_plain, conflict_up, plain_first, plain_next_at, plain_done, untouched_first, untouched_needs_head, faithful_needs_head, faithful_taken, faithful_at_zero, kept_of_faithful, IsFaithful-less, reach_within}
 use Rattle.search_graph.proofs.Limits.{unnoted, either_noted, not_both, told_within, AreLastWithin-now, AreLastWithin-push, AreCachedWithin-keeps}
 use Rattle.search_graph.proofs.Bounds.{frame_bound_runs, nested_within, one_more_run, runs_within, done_within, asked_within, asked_more}
 use Rattle.search_graph.proofs.Ends.{depth_after, held_after, answer_after, faithful_after, within_after}
 use Rattle.search_graph.proofs.Turns.{asked_in_turn, ended_in_turn, in_order_in_turn, told_in_turn, plain_in_turn}
-use Rattle.search_graph.proofs.Entries.{runs_begin, runs_leave, runs_left, entries_met, entries_keep, entries_same, entries_within_keep, entries_within_begin, entries_within_leave}
+use Rattle.search_graph.proofs.Entries.{runs_begin, runs_leave, runs_left, entries_keep, entries_same, entries_within_keep, entries_within_begin, entries_within_leave}
 use Rattle.search_graph.proofs.evaluation.+search.Goals as goal
 use Rattle.type_terms.proofs.BooleanBasics.{true-false as true_not_false}
 
@@ -42,8 +42,7 @@ ask-returns-in_default g t c =
       keeps = c.reply_with_overflow.ensures.keeps;
       stack = OnOk-always c.reply_with_overflow.result c.reply_with_overflow.ensures.stack;
       cache = c.reply_with_overflow.ensures.cache;
-      entries = OnOk-always c.reply_with_overflow.result (rw c.reply_with_overflow.ensures.met (entries_same m w c.args.search.now.overflow_met first c.reply_with_overflow.new.cx c.args.cache.now.asked.items c.reply_with_overflow.new.cache.asked.items (steps_of m first es) c.args.search.now.entries.lists.items c.reply_with_overflow.new.search.entries.lists.items c.reply_with_overflow.ensures.keeps (ap (λ v. v.items) c.reply_with_overflow.ensures.asked_before) (ap (λ e. e.lists.items) c.reply_with_overflow.ensures.provisional) c.requires.entries));
-      calm = OnOk-always c.reply_with_overflow.result (λ off. sym c.reply_with_overflow.ensures.met ∙ off);
+      entries = OnOk-always c.reply_with_overflow.result (entries_same m w first c.reply_with_overflow.new.cx c.args.cache.now.asked.items c.reply_with_overflow.new.cache.asked.items (steps_of m first es) c.args.search.now.entries.lists.items c.reply_with_overflow.new.search.entries.lists.items c.reply_with_overflow.ensures.keeps (ap (λ v. v.items) c.reply_with_overflow.ensures.asked_before) (ap (λ e. e.lists.items) c.reply_with_overflow.ensures.provisional) c.requires.entries);
       goals = c.reply_with_overflow.ensures.goals;
       results = λ p x h. rw c.reply_with_overflow.ensures.entries h;
       asked_before = λ p x h. rw c.reply_with_overflow.ensures.asked_before h;
@@ -74,7 +73,6 @@ ask-returns-in_err-reply g t c =
       stack = OnOk-err _ _ _ p.1;
       cache = c.evaluate.ensures.cache;
       entries = OnOk-err _ _ _ p.1;
-      calm = OnOk-err _ _ _ p.1;
       goals = c.evaluate.ensures.goals;
       results = c.evaluate.ensures.results;
       asked_before = c.evaluate.ensures.asked_before;
@@ -119,7 +117,6 @@ ask-returns g t c =
       stack = replied.stack;
       cache = c.evaluate.ensures.cache;
       entries = replied.entries;
-      calm = replied.calm;
       goals = c.evaluate.ensures.goals;
       results = c.evaluate.ensures.results;
       asked_before = c.evaluate.ensures.asked_before;
@@ -145,12 +142,12 @@ ask-returns g t c =
 pub evaluate-returns-in_err-number : goal.evaluate-returns-in_err-number
 evaluate-returns-in_err-number g t c =
     let p = err_from_is_err_and c.from_residual.result c.from_residual.ensures.1 in
+    let alone = memory_alone _ _ p.1 p.2 in
     record {
       keeps = Keeps-refl g.D.Delegate.meaning c.args.cx.now;
       stack = OnOk-always c.from_residual.result refl;
       cache = rw c.look_up.ensures.entries c.requires.cache;
       entries = OnOk-err _ _ _ p.1;
-      calm = OnOk-err _ _ _ p.1;
       goals = c.look_up.ensures.goals;
       results = λ p x h. rw c.look_up.ensures.entries h;
       asked_before = λ p x h. rw c.look_up.ensures.asked_before h;
@@ -159,20 +156,20 @@ evaluate-returns-in_err-number g t c =
       kept = λ empty. IfOk-err _ _ _ p.1;
       answer = IfOk-err _ _ _ p.1;
       faithful = IfOk-err _ _ _ p.1;
-      no_conflict = λ h. absurd {A = IsNotPlainOver g.D.Delegate.meaning c.args.cx.now c.args.search.now.stack.items c.args.input (c.args.depth + 1)} (c.in_err-number.ensures.no_conflict (fault_passed _ _ _ _ p.1 p.2 h));
-      exhausted = λ h. absurd {A = IsNotPlainOver g.D.Delegate.meaning c.args.cx.now c.args.search.now.stack.items c.args.input (c.args.depth + 1)} (fault_goes_on _ _ _ p.1 p.2 h);
-      protocol = λ h. absurd (c.in_err-number.ensures.in_order (fault_passed _ _ _ _ p.1 p.2 h));
-      conflict = λ h. absurd (c.in_err-number.ensures.no_conflict (fault_passed _ _ _ _ p.1 p.2 h));
+      no_conflict = λ h. absurd {A = IsNotPlainOver g.D.Delegate.meaning c.args.cx.now c.args.search.now.stack.items c.args.input (c.args.depth + 1)} (alone.1 h);
+      exhausted = λ h. absurd {A = IsNotPlainOver g.D.Delegate.meaning c.args.cx.now c.args.search.now.stack.items c.args.input (c.args.depth + 1)} (alone.0 h);
+      protocol = λ h. absurd (alone.2 h);
+      conflict = λ h. absurd (alone.1 h);
       frames = λ width h. none_started _ _ _ refl;
-      full = λ h. absurd (c.in_err-number.ensures.room (fault_passed _ _ _ _ p.1 p.2 h));
+      full = λ h. absurd (alone.3 h);
       rises = none_counted _ _ refl;
       counted = λ empty. IfOk-err _ _ _ p.1;
-      spent = λ h. absurd (fault_goes_on _ _ _ p.1 p.2 h);
+      spent = λ h. absurd (alone.0 h);
       limits = λ h. h;
       no_limit = λ off on. not_both c.args.search.now.limits_met off on;
       within = IfOk-err _ _ _ p.1;
       cached = λ place e at same within clear. (refl, c.look_up.ensures.entries);
-      served = λ place e at same within clear h. fault_goes_on _ _ _ p.1 p.2 h;
+      served = λ place e at same within clear. alone.0;
       known = λ empty place e at same within clear. IfOk-err _ _ _ p.1;
     }
 
@@ -185,8 +182,7 @@ evaluate-returns-in-Some g t c =
       keeps = Keeps-refl g.D.Delegate.meaning c.args.cx.now;
       stack = refl;
       cache = rw c.look_up.ensures.entries c.requires.cache;
-      entries = entries_same m (m.world first) c.args.search.now.overflow_met first first c.args.cache.now.asked.items c.look_up.new.cache.asked.items (steps_of m first c.args.search.now.stack.items) lists lists (Keeps-refl m first) (ap (λ v. v.items) c.look_up.ensures.asked_before) refl c.requires.entries;
-      calm = λ off. off;
+      entries = entries_same m (m.world first) first first c.args.cache.now.asked.items c.look_up.new.cache.asked.items (steps_of m first c.args.search.now.stack.items) lists lists (Keeps-refl m first) (ap (λ v. v.items) c.look_up.ensures.asked_before) refl c.requires.entries;
       goals = c.look_up.ensures.goals;
       results = λ p x h. rw c.look_up.ensures.entries h;
       asked_before = λ p x h. rw c.look_up.ensures.asked_before h;
@@ -225,8 +221,7 @@ evaluate-returns-in-Some-find_cycle g t c =
       keeps = c.reply_in_cycle.ensures.keeps;
       stack = OnOk-always c.reply_in_cycle.result refl;
       cache = rw c.look_up.ensures.entries (AreCached-later g.D.Delegate.meaning c.args.cx.now c.reply_in_cycle.new.cx c.args.cache.now.entries.items c.reply_in_cycle.ensures.keeps c.requires.cache);
-      entries = OnOk-always c.reply_in_cycle.result (entries_same m (m.world first) c.args.search.now.overflow_met first c.reply_in_cycle.new.cx c.args.cache.now.asked.items c.look_up.new.cache.asked.items (steps_of m first es) c.args.search.now.entries.lists.items c.args.search.now.entries.lists.items c.reply_in_cycle.ensures.keeps (ap (λ v. v.items) c.look_up.ensures.asked_before) refl c.requires.entries);
-      calm = OnOk-always c.reply_in_cycle.result (λ off. off);
+      entries = OnOk-always c.reply_in_cycle.result (entries_same m (m.world first) first c.reply_in_cycle.new.cx c.args.cache.now.asked.items c.look_up.new.cache.asked.items (steps_of m first es) c.args.search.now.entries.lists.items c.args.search.now.entries.lists.items c.reply_in_cycle.ensures.keeps (ap (λ v. v.items) c.look_up.ensures.asked_before) refl c.requires.entries);
       goals = c.look_up.ensures.goals;
       results = λ p x h. rw c.look_up.ensures.entries h;
       asked_before = λ p x h. rw c.look_up.ensures.asked_before h;
@@ -251,7 +246,7 @@ evaluate-returns-in-Some-find_cycle g t c =
           (λ o f before no last cached. (
             rw c.look_up.ensures.entries (
               AreCachedWithin-keeps m (m.world first) before (m.world first) first c.reply_in_cycle.new.cx c.args.cache.now.entries.items c.reply_in_cycle.ensures.keeps c.requires.cache cached.0,
-              entries_within_keep m (m.world first) (m.world first) c.args.search.now.overflow_met before first c.reply_in_cycle.new.cx c.args.cache.now.asked.items (steps_of m first es) c.args.search.now.entries.lists.items c.reply_in_cycle.ensures.keeps c.requires.entries cached.1,
+              entries_within_keep m (m.world first) (m.world first) before first c.reply_in_cycle.new.cx c.args.cache.now.asked.items (steps_of m first es) c.args.search.now.entries.lists.items c.reply_in_cycle.ensures.keeps c.requires.entries cached.1,
             ),
             f before last,
           )) c.reply_in_cycle.ensures.within;
@@ -267,7 +262,6 @@ evaluate-returns-in-None g t c =
       stack = c.evaluate_new.ensures.stack;
       cache = c.evaluate_new.ensures.cache;
       entries = c.evaluate_new.ensures.entries;
-      calm = c.evaluate_new.ensures.calm;
       goals = λ x n h. c.evaluate_new.ensures.goals x n (c.look_up.ensures.goals x n h);
       results = λ p x h. c.evaluate_new.ensures.results p x (rw c.look_up.ensures.entries h);
       asked_before = λ p x h. c.evaluate_new.ensures.asked_before p x (rw c.look_up.ensures.asked_before h);
@@ -308,7 +302,7 @@ evaluate-evaluate_new-requires g t c κs within = (
             within.1.1.1.1.0,
             (
               within.1.1.1.1.1,
-              (c.requires.stack, (rw c.look_up.ensures.entries c.requires.cache, (rw c.look_up.ensures.asked_before c.requires.entries, (c.requires.descends, (c.requires.input, c.in_ok-number.ensures.number))))),
+              (c.requires.stack, (rw c.look_up.ensures.entries c.requires.cache, (rw c.look_up.ensures.asked_before c.requires.entries, (c.requires.input, c.in_ok-number.ensures.number)))),
             ),
           ),
         ),
@@ -329,7 +323,6 @@ evaluate_new-loop-run-init g t c =
       keeps = Keeps-refl m first;
       cache = c.requires.cache;
       entries = c.requires.entries;
-      calm = λ off. (off, c.new-dependencies.ensures.within);
       goals = λ x n h. h;
       results = λ p x h. h;
       asked_before = λ p x h. h;
@@ -384,7 +377,6 @@ evaluate_new-loop-run-preserved g t c =
       keeps = keeps;
       cache = c.run_once.ensures.cache;
       entries = rw (inv.keeps.world, steps-now m first c.loop-run.cx es c.loop-run.search.stack.items inv.keeps inv.stack c.requires.stack) at c.in_ok-back.ensures.entries;
-      calm = λ off. let run = c.in_ok-back.ensures.calm off in ((inv.calm run.0).0, run.1);
       goals = λ x n h. c.run_once.ensures.goals x n (inv.goals x n h);
       results = λ p x h. c.run_once.ensures.results p x (inv.results p x h);
       asked_before = λ p x h. c.run_once.ensures.asked_before p x (inv.asked_before p x h);
@@ -436,7 +428,7 @@ evaluate_new-run_once-requires g t c κs within =
                 within.1.1.1.1.0,
                 (
                   within.1.1.1.1.1,
-                  (stack, (inv.cache, (rw (inv.keeps.world, steps-now m first c.loop-run.cx es c.loop-run.search.stack.items inv.keeps inv.stack c.requires.stack) inv.entries, (rw (inv.keeps.world, steps-now m first c.loop-run.cx es c.loop-run.search.stack.items inv.keeps inv.stack c.requires.stack, inv.input, goal_is) (λ off. c.requires.descends (inv.calm off).0), (entry, (rw inv.stack inv.below, (rw inv.stack inv.span, (inv.range, (inv.depth, ((λ off. (inv.calm off).1), rw (inv.keeps.world, steps-now m first c.loop-run.cx es c.loop-run.search.stack.items inv.keeps inv.stack c.requires.stack, inv.input, goal_is) inv.untouched)))))))))),
+                  (stack, (inv.cache, (rw (inv.keeps.world, steps-now m first c.loop-run.cx es c.loop-run.search.stack.items inv.keeps inv.stack c.requires.stack) inv.entries, (entry, (rw inv.stack inv.below, (rw inv.stack inv.span, (inv.range, (inv.depth, rw (inv.keeps.world, steps-now m first c.loop-run.cx es c.loop-run.search.stack.items inv.keeps inv.stack c.requires.stack, inv.input, goal_is) inv.untouched)))))))),
                 ),
               ),
             ),
@@ -577,7 +569,7 @@ evaluate_new-conclude-requires-2-clause-entries g t c =
     let es = c.args.search.now.stack.items in
     let keeps = Keeps-trans m first c.loop-run.cx c.fixpoint_overflow_result.new.cx inv.keeps c.fixpoint_overflow_result.ensures.keeps in
     rw (keeps.world, steps-now m first c.fixpoint_overflow_result.new.cx es c.loop-run.search.stack.items keeps inv.stack c.requires.stack)
-    (entries_same m (m.world first) c.loop-run.search.overflow_met c.loop-run.cx c.fixpoint_overflow_result.new.cx c.loop-run.cache.asked.items c.loop-run.cache.asked.items (steps_of m first es) c.loop-run.search.entries.lists.items c.loop-run.search.entries.lists.items c.fixpoint_overflow_result.ensures.keeps refl refl inv.entries)
+    (entries_same m (m.world first) c.loop-run.cx c.fixpoint_overflow_result.new.cx c.loop-run.cache.asked.items c.loop-run.cache.asked.items (steps_of m first es) c.loop-run.search.entries.lists.items c.loop-run.search.entries.lists.items c.fixpoint_overflow_result.ensures.keeps refl refl inv.entries)
 
 pub evaluate_new-conclude-requires-2-clause-left : goal.evaluate_new-conclude-requires-2-clause-left
 evaluate_new-conclude-requires-2-clause-left g t c place e at = absurd (none-some e (rw c.new.ensures.items at at))
@@ -645,8 +637,7 @@ evaluate_new-returns-then-is_last_run g t c =
       keeps = Keeps-trans g.D.Delegate.meaning c.args.cx.now c.loop-run.cx c.run_once.new.cx c.loop-run.invariant.keeps c.run_once.ensures.keeps;
       stack = OnOk-always c.conclude.result (c.conclude.ensures.stack ∙ c.in_ok-back.ensures.stack ∙ c.loop-run.invariant.stack);
       cache = c.conclude.ensures.cache;
-      entries = rw c.conclude.ensures.met (rw (keeps.world, steps-now m first c.run_once.new.cx es c.run_once.new.search.stack.items keeps (c.in_ok-back.ensures.stack ∙ inv.stack) c.requires.stack) at c.conclude.ensures.entries);
-      calm = OnOk-always c.conclude.result (λ off. (inv.calm (c.in_ok-back.ensures.calm (sym c.conclude.ensures.met ∙ off)).0).0);
+      entries = rw (keeps.world, steps-now m first c.run_once.new.cx es c.run_once.new.search.stack.items keeps (c.in_ok-back.ensures.stack ∙ inv.stack) c.requires.stack) at c.conclude.ensures.entries;
       goals = λ x n h. rw c.conclude.ensures.goals (c.run_once.ensures.goals x n (c.loop-run.invariant.goals x n h));
       results = λ p x h. c.conclude.ensures.results p x (c.run_once.ensures.results p x (c.loop-run.invariant.results p x h));
       asked_before = λ p x h. c.conclude.ensures.asked_before p x (c.run_once.ensures.asked_before p x (c.loop-run.invariant.asked_before p x h));
@@ -700,7 +691,6 @@ evaluate_new-returns-in_err-back g t c =
       stack = OnOk-err _ _ _ p.1;
       cache = c.run_once.ensures.cache;
       entries = OnOk-err _ _ _ p.1;
-      calm = OnOk-err _ _ _ p.1;
       goals = λ x n h. c.run_once.ensures.goals x n (c.loop-run.invariant.goals x n h);
       results = λ p x h. c.run_once.ensures.results p x (c.loop-run.invariant.results p x h);
       asked_before = λ p x h. c.run_once.ensures.asked_before p x (c.loop-run.invariant.asked_before p x h);
@@ -737,12 +727,12 @@ evaluate_new-returns-in_err-entry g t c =
     let es = c.args.search.now.stack.items in
     let goal_is = (inv.keeps.inputs c.args.input c.requires.input).1 in
     let limit : ℕ = max g.D.Delegate.FIXPOINT_STEP_LIMIT 1 in
+    let alone = memory_alone _ _ p.1 p.2 in
     record {
       keeps = Keeps-trans g.D.Delegate.meaning c.args.cx.now c.loop-run.cx c.run_once.new.cx inv.keeps c.run_once.ensures.keeps;
       stack = OnOk-err _ _ _ p.1;
       cache = c.run_once.ensures.cache;
       entries = OnOk-err _ _ _ p.1;
-      calm = OnOk-err _ _ _ p.1;
       goals = λ x n h. c.run_once.ensures.goals x n (inv.goals x n h);
       results = λ p x h. c.run_once.ensures.results p x (inv.results p x h);
       asked_before = λ p x h. c.run_once.ensures.asked_before p x (inv.asked_before p x h);
@@ -751,18 +741,18 @@ evaluate_new-returns-in_err-entry g t c =
       kept = λ empty. IfOk-err _ _ _ p.1;
       answer = IfOk-err _ _ _ p.1;
       faithful = IfOk-err _ _ _ p.1;
-      no_conflict = λ h. absurd {A = IsNotPlainOver g.D.Delegate.meaning c.args.cx.now c.args.search.now.stack.items c.args.input (c.args.depth + 1)} (stop_refused _ _ _ p.1 p.2.1 h);
-      exhausted = λ h. absurd {A = IsNotPlainOver g.D.Delegate.meaning c.args.cx.now c.args.search.now.stack.items c.args.input (c.args.depth + 1)} (stop_refused _ _ _ p.1 p.2.0 h);
-      protocol = λ h. absurd (stop_refused _ _ _ p.1 p.2.2 h);
-      conflict = λ h. absurd (stop_refused _ _ _ p.1 p.2.1 h);
+      no_conflict = λ h. absurd {A = IsNotPlainOver g.D.Delegate.meaning c.args.cx.now c.args.search.now.stack.items c.args.input (c.args.depth + 1)} (alone.1 h);
+      exhausted = λ h. absurd {A = IsNotPlainOver g.D.Delegate.meaning c.args.cx.now c.args.search.now.stack.items c.args.input (c.args.depth + 1)} (alone.0 h);
+      protocol = λ h. absurd (alone.2 h);
+      conflict = λ h. absurd (alone.1 h);
       frames = λ width h.
           let more = one_more_run c.args.search.now.frames c.loop-run.search.frames c.run_once.new.search.frames c.loop-run._run (1 + width * question_bound limit width c.args.depth)
           (inv.frames width h) (c.run_once.ensures.frames width (rw (inv.keeps.world, inv.input, goal_is) h)) in
           rw (frame_bound_runs limit width c.args.depth) (runs_within c.args.search.now.frames c.run_once.new.search.frames (c.loop-run._run + 1) limit (1 + width * question_bound limit width c.args.depth) counted more);
-      full = λ h. absurd (stop_refused _ _ _ p.1 p.2.3 h);
+      full = λ h. absurd (alone.3 h);
       rises = within_more _ _ _ inv.rises c.run_once.ensures.rises;
       counted = OnOk-err _ _ _ p.1;
-      spent = λ h. absurd (stop_refused _ _ _ p.1 p.2.0 h);
+      spent = λ h. absurd (alone.0 h);
       limits = λ h. c.run_once.ensures.limits (inv.limits h);
       no_limit = λ off. either_noted c.loop-run.search.limits_met c.run_once.new.search.limits_met (inv.noted off)
           (rw (inv.keeps.world, steps-now m first c.loop-run.cx es c.loop-run.search.stack.items inv.keeps inv.stack c.requires.stack, inv.input, goal_is) at c.run_once.ensures.no_limit);
@@ -798,8 +788,7 @@ evaluate_new-returns g t c =
       keeps = Keeps-trans g.D.Delegate.meaning c.args.cx.now c.loop-run.cx c.fixpoint_overflow_result.new.cx c.loop-run.invariant.keeps c.fixpoint_overflow_result.ensures.keeps;
       stack = OnOk-always c.conclude-2.result (c.conclude-2.ensures.stack ∙ c.loop-run.invariant.stack);
       cache = c.conclude-2.ensures.cache;
-      entries = rw c.conclude-2.ensures.met (rw (keeps.world, steps-now m first c.fixpoint_overflow_result.new.cx es c.loop-run.search.stack.items keeps inv.stack c.requires.stack) at c.conclude-2.ensures.entries);
-      calm = OnOk-always c.conclude-2.result (λ off. (inv.calm (sym c.conclude-2.ensures.met ∙ off)).0);
+      entries = rw (keeps.world, steps-now m first c.fixpoint_overflow_result.new.cx es c.loop-run.search.stack.items keeps inv.stack c.requires.stack) at c.conclude-2.ensures.entries;
       goals = λ x n h. rw c.conclude-2.ensures.goals (c.loop-run.invariant.goals x n h);
       results = λ p x h. c.conclude-2.ensures.results p x (c.loop-run.invariant.results p x h);
       asked_before = λ p x h. c.conclude-2.ensures.asked_before p x (c.loop-run.invariant.asked_before p x h);
@@ -921,7 +910,6 @@ run_once-returns-in_err-frame g t c =
       cache = AreCached-later g.D.Delegate.meaning c.args.cx.now c.start_run.new.cx c.args.cache.now.entries.items c.start_run.ensures.keeps c.requires.cache;
       entries = OnOk-err _ _ _ p.1;
       left = IfOk-err _ _ _ p.1;
-      calm = IfOk-err _ _ _ p.1;
       goals = λ x n h. h;
       results = λ p x h. h;
       asked_before = λ p x h. h;
@@ -930,15 +918,15 @@ run_once-returns-in_err-frame g t c =
       entry = IfOk-err _ _ _ p.1;
       provisional = IfOk-err _ _ _ p.1;
       faithful = IfOk-err _ _ _ p.1;
-      no_conflict = λ h. absurd {A = IsNotPlainOver g.D.Delegate.meaning c.args.cx.now c.args.search.now.stack.items c.args.entry.input (c.args.depth + 1)} (c.in_err-frame.ensures.no_conflict (fault_passed _ _ _ _ p.1 p.2 h));
-      exhausted = λ h. absurd {A = IsNotPlainOver g.D.Delegate.meaning c.args.cx.now c.args.search.now.stack.items c.args.entry.input (c.args.depth + 1)} (fault_goes_on _ _ _ p.1 p.2 h);
-      protocol = λ h. absurd (c.in_err-frame.ensures.in_order (fault_passed _ _ _ _ p.1 p.2 h));
-      conflict = λ h. absurd (c.in_err-frame.ensures.no_conflict (fault_passed _ _ _ _ p.1 p.2 h));
+      no_conflict = λ h. absurd {A = IsNotPlainOver g.D.Delegate.meaning c.args.cx.now c.args.search.now.stack.items c.args.entry.input (c.args.depth + 1)} (stop_refused _ _ _ p.1 p.2.1 h);
+      exhausted = λ h. absurd {A = IsNotPlainOver g.D.Delegate.meaning c.args.cx.now c.args.search.now.stack.items c.args.entry.input (c.args.depth + 1)} (stop_refused _ _ _ p.1 p.2.0 h);
+      protocol = λ h. absurd (stop_refused _ _ _ p.1 p.2.2 h);
+      conflict = λ h. absurd (stop_refused _ _ _ p.1 p.2.1 h);
       frames = λ width h. one_started _ _ _ c.start_run.ensures.frames;
-      full = λ h. c.in_err-frame.ensures.full (fault_passed _ _ _ _ p.1 p.2 h);
+      full = λ h. c.in_err-frame.ensures.full (full_passed _ _ _ p.1 p.2.3 h);
       rises = c.start_run.ensures.rises;
       counted = OnOk-err _ _ _ p.1;
-      spent = λ h. absurd (fault_goes_on _ _ _ p.1 p.2 h);
+      spent = λ h. absurd (stop_refused _ _ _ p.1 p.2.0 h);
       limits = λ h. c.start_run.ensures.limits ∙ h;
       no_limit = λ off on. not_both c.args.search.now.limits_met off (sym c.start_run.ensures.limits ∙ on);
       within = IfOk-err _ _ _ p.1;
@@ -968,7 +956,6 @@ run_once-returns-in_err-request-in-Ask g t c =
       cache = AreCached-later g.D.Delegate.meaning c.ask.new.cx c.hear.new.cx c.ask.new.cache.entries.items c.hear.ensures.keeps c.ask.ensures.cache;
       entries = OnOk-err _ _ _ p.1;
       left = IfOk-err _ _ _ p.1;
-      calm = IfOk-err _ _ _ p.1;
       goals = λ x n h. c.ask.ensures.goals x n (c.loop-candidates.invariant.goals x n h);
       results = λ p x h. c.ask.ensures.results p x (c.loop-candidates.invariant.results p x h);
       asked_before = λ p x h. c.ask.ensures.asked_before p x (c.loop-candidates.invariant.asked_before p x h);
@@ -977,13 +964,13 @@ run_once-returns-in_err-request-in-Ask g t c =
       entry = IfOk-err _ _ _ p.1;
       provisional = IfOk-err _ _ _ p.1;
       faithful = IfOk-err _ _ _ p.1;
-      no_conflict = λ h. absurd {A = IsNotPlainOver g.D.Delegate.meaning c.args.cx.now c.args.search.now.stack.items c.args.entry.input (c.args.depth + 1)} (c.in_err-request-in-Ask.ensures.no_conflict (fault_passed _ _ _ _ p.1 p.2 h));
-      exhausted = λ h. absurd {A = IsNotPlainOver g.D.Delegate.meaning c.args.cx.now c.args.search.now.stack.items c.args.entry.input (c.args.depth + 1)} (fault_goes_on _ _ _ p.1 p.2 h);
-      protocol = λ h. absurd (c.in_err-request-in-Ask.ensures.in_order (fault_passed _ _ _ _ p.1 p.2 h));
-      conflict = λ h. absurd (c.in_err-request-in-Ask.ensures.no_conflict (fault_passed _ _ _ _ p.1 p.2 h));
+      no_conflict = λ h. absurd {A = IsNotPlainOver g.D.Delegate.meaning c.args.cx.now c.args.search.now.stack.items c.args.entry.input (c.args.depth + 1)} (stop_refused _ _ _ p.1 p.2.1 h);
+      exhausted = λ h. absurd {A = IsNotPlainOver g.D.Delegate.meaning c.args.cx.now c.args.search.now.stack.items c.args.entry.input (c.args.depth + 1)} (stop_refused _ _ _ p.1 p.2.0 h);
+      protocol = λ h. absurd (stop_refused _ _ _ p.1 p.2.2 h);
+      conflict = λ h. absurd (stop_refused _ _ _ p.1 p.2.1 h);
       frames = λ width h. asked_within c.args.search.now.frames c.loop-candidates.search.frames c.ask.new.search.frames (question_bound limit width c.args.depth) (answer_count m inv.running.heard) (m.number_of w x) width
           (inv.frames width h) (c.ask.ensures.frames width (rw inv.keeps.world (within_more _ _ _ fair.1 h))) asked h;
-      full = λ h. c.in_err-request-in-Ask.ensures.full (fault_passed _ _ _ _ p.1 p.2 h);
+      full = λ h. c.in_err-request-in-Ask.ensures.full (full_passed _ _ _ p.1 p.2.3 h);
       rises = within_more _ _ _ inv.rises c.ask.ensures.rises;
       counted = OnOk-err _ _ _ p.1;
       spent = λ h. within_more _ _ _ inv.counted c.ask.ensures.rises;
@@ -1020,7 +1007,7 @@ run_once-ask-requires g t c κs within =
                 within.1.1.1.1.0,
                 (
                   within.1.1.1.1.1,
-                  (IsStack-now m first c.loop-candidates.cx (es ++ c.args.entry ∷ []) c.loop-candidates.search.stack.items inv.keeps inv.stack pushed, (inv.cache, (rw (inv.keeps.world, steps-now m first c.loop-candidates.cx (es ++ c.args.entry ∷ []) c.loop-candidates.search.stack.items inv.keeps inv.stack pushed, steps_pushed m first es c.args.entry) inv.entries, (rw (inv.keeps.world, steps-now m first c.loop-candidates.cx (es ++ c.args.entry ∷ []) c.loop-candidates.search.stack.items inv.keeps inv.stack pushed, steps_pushed m first es c.args.entry) (λ off. asked_descends m w (c.args.depth + 1) steps x (m.goal_of c.loop-candidates.cx c.in-Ask.input) c.args.entry.step_kind c.in-Ask.step_kind c.loop-candidates.dependencies.encountered_overflow (indices c.loop-candidates.dependencies.heads.items) inv.running.heard (sym request) inv.plain (inv.calm off).1 (c.requires.descends (inv.calm off).0)), known)))),
+                  (IsStack-now m first c.loop-candidates.cx (es ++ c.args.entry ∷ []) c.loop-candidates.search.stack.items inv.keeps inv.stack pushed, (inv.cache, (rw (inv.keeps.world, steps-now m first c.loop-candidates.cx (es ++ c.args.entry ∷ []) c.loop-candidates.search.stack.items inv.keeps inv.stack pushed, steps_pushed m first es c.args.entry) inv.entries, known))),
                 ),
               ),
             ),
@@ -1061,11 +1048,7 @@ run_once-loop-candidates-preserved-in-Ask g t c =
     record {
       keeps = Keeps-trans m first c.ask.new.cx c.hear.new.cx keeps c.hear.ensures.keeps;
       cache = AreCached-later m c.ask.new.cx c.hear.new.cx c.ask.new.cache.entries.items c.hear.ensures.keeps c.ask.ensures.cache;
-      entries = entries_met m w c.ask.new.search.overflow_met c.is_met-search.result c.hear.new.cx c.ask.new.cache.asked.items (steps ++ question_of m first c.args.entry ∷ []) c.ask.new.search.entries.lists.items (λ off. or_first c.ask.new.search.overflow_met nested.dependencies.encountered_overflow (sym c.is_met-search.ensures ∙ off))
-          (entries_keep m w c.ask.new.search.overflow_met c.ask.new.cx c.hear.new.cx c.ask.new.cache.asked.items c.ask.new.cache.asked.items (steps ++ question_of m first c.args.entry ∷ []) c.ask.new.search.entries.lists.items c.hear.ensures.keeps (λ place a at. at) (rw (inv.keeps.world, steps-now m first c.loop-candidates.cx (es ++ c.args.entry ∷ []) c.loop-candidates.search.stack.items inv.keeps inv.stack pushed, steps_pushed m first es c.args.entry) at c.in_ok-nested-in-Ask.ensures.entries));
-      calm = λ off.
-          let had = inv.calm (c.in_ok-nested-in-Ask.ensures.calm (or_first c.ask.new.search.overflow_met nested.dependencies.encountered_overflow (sym c.is_met-search.ensures ∙ off))) in
-          (had.0, rw (c.in_ok-request-in-Ask.ensures.overflow, had.1) (or_second c.ask.new.search.overflow_met nested.dependencies.encountered_overflow (sym c.is_met-search.ensures ∙ off)));
+      entries = entries_keep m w c.ask.new.cx c.hear.new.cx c.ask.new.cache.asked.items c.ask.new.cache.asked.items (steps ++ question_of m first c.args.entry ∷ []) c.ask.new.search.entries.lists.items c.hear.ensures.keeps (λ place a at. at) (rw (inv.keeps.world, steps-now m first c.loop-candidates.cx (es ++ c.args.entry ∷ []) c.loop-candidates.search.stack.items inv.keeps inv.stack pushed, steps_pushed m first es c.args.entry) at c.in_ok-nested-in-Ask.ensures.entries);
       goals = λ x n h. c.ask.ensures.goals x n (inv.goals x n h);
       results = λ p x h. c.ask.ensures.results p x (inv.results p x h);
       asked_before = λ p x h. c.ask.ensures.asked_before p x (inv.asked_before p x h);
@@ -1092,7 +1075,7 @@ run_once-loop-candidates-preserved-in-Ask g t c =
           let here = rw inv.keeps.world at told in (
             (
               AreCachedWithin-keeps m w before (m.world c.ask.new.cx) c.ask.new.cx c.hear.new.cx c.ask.new.cache.entries.items c.hear.ensures.keeps c.ask.ensures.cache here.0.0,
-              entries_within_keep m w w c.ask.new.search.overflow_met before c.ask.new.cx c.hear.new.cx c.ask.new.cache.asked.items (steps ++ question_of m first c.args.entry ∷ []) c.ask.new.search.entries.lists.items c.hear.ensures.keeps
+              entries_within_keep m w w before c.ask.new.cx c.hear.new.cx c.ask.new.cache.asked.items (steps ++ question_of m first c.args.entry ∷ []) c.ask.new.search.entries.lists.items c.hear.ensures.keeps
                   (rw (inv.keeps.world, steps-now m first c.loop-candidates.cx (es ++ c.args.entry ∷ []) c.loop-candidates.search.stack.items inv.keeps inv.stack pushed, steps_pushed m first es c.args.entry) at c.in_ok-nested-in-Ask.ensures.entries) here.0.1,
             ),
             hears_next m w steps x c.args.entry.step_kind (indices c.loop-candidates.dependencies.heads.items) c.loop-candidates.cx c.loop-candidates.frame c.loop-candidates.request (Evaluate c.in-Ask.input c.in-Ask.step_kind) asks.0 inv.keeps.world inv.running (IsGivenWithin m w before)
@@ -1153,7 +1136,6 @@ run_once-returns-in_err-nested-in-Ask g t c =
       cache = c.ask.ensures.cache;
       entries = OnOk-err _ _ _ p.1;
       left = IfOk-err _ _ _ p.1;
-      calm = IfOk-err _ _ _ p.1;
       goals = λ x n h. c.ask.ensures.goals x n (c.loop-candidates.invariant.goals x n h);
       results = λ p x h. c.ask.ensures.results p x (c.loop-candidates.invariant.results p x h);
       asked_before = λ p x h. c.ask.ensures.asked_before p x (c.loop-candidates.invariant.asked_before p x h);
@@ -1197,9 +1179,8 @@ run_once-loop-candidates-init g t c =
       cache = AreCached-later m first c.start_run.new.cx c.args.cache.now.entries.items keeps c.requires.cache;
       entries =
           let none = c.in_ok-frame.ensures.none in
-          let begun = runs_begin m w c.args.search.now.overflow_met first c.args.cache.now.asked.items steps (question_of m first c.args.entry) c.args.search.now.entries.lists.items none.0 (c.args.search.now.listed ∙ sym (length-steps_of m first es)) none.2 c.requires.entries in
-          rw c.start_run.ensures.met (entries_same m w c.args.search.now.overflow_met first c.start_run.new.cx c.args.cache.now.asked.items c.args.cache.now.asked.items (steps ++ question_of m first c.args.entry ∷ []) (c.args.search.now.entries.lists.items ++ none.0 ∷ []) c.start_run.new.search.entries.lists.items keeps refl none.1 begun);
-      calm = λ off. let was = sym c.start_run.ensures.met ∙ off in (was, c.requires.calm was);
+          let begun = runs_begin m w first c.args.cache.now.asked.items steps (question_of m first c.args.entry) c.args.search.now.entries.lists.items none.0 (c.args.search.now.listed ∙ sym (length-steps_of m first es)) none.2 c.requires.entries in
+          entries_same m w first c.start_run.new.cx c.args.cache.now.asked.items c.args.cache.now.asked.items (steps ++ question_of m first c.args.entry ∷ []) (c.args.search.now.entries.lists.items ++ none.0 ∷ []) c.start_run.new.search.entries.lists.items keeps refl none.1 begun;
       goals = λ x n h. h;
       results = λ p x h. h;
       asked_before = λ p x h. h;
@@ -1216,7 +1197,7 @@ run_once-loop-candidates-init g t c =
       noted = λ off on. not_both {P = IsNotPlainOver m first es c.args.entry.input (c.args.depth + 1)} c.args.search.now.limits_met off (sym c.start_run.ensures.limits ∙ on);
       within = rw start.1 (λ before no last own cached.
           let none = c.in_ok-frame.ensures.none in
-          let kept = entries_within_keep m w w c.args.search.now.overflow_met before first c.start_run.new.cx c.args.cache.now.asked.items steps c.args.search.now.entries.lists.items keeps c.requires.entries cached.1 in (
+          let kept = entries_within_keep m w w before first c.start_run.new.cx c.args.cache.now.asked.items steps c.args.search.now.entries.lists.items keeps c.requires.entries cached.1 in (
             (
               AreCachedWithin-keeps m w before w first c.start_run.new.cx c.args.cache.now.entries.items keeps c.requires.cache cached.0,
               rw none.1 (entries_within_begin m w before c.start_run.new.cx c.args.search.now.entries.lists.items none.0 none.2 kept),
@@ -1243,7 +1224,6 @@ run_once-returns-in_err-turn g t c =
       cache = inv.cache;
       entries = OnOk-err _ _ _ p.1;
       left = IfOk-err _ _ _ p.1;
-      calm = IfOk-err _ _ _ p.1;
       goals = inv.goals;
       results = inv.results;
       asked_before = inv.asked_before;
@@ -1331,8 +1311,7 @@ run_once-loop-candidates-preserved g t c =
     record {
       keeps = Keeps-trans m first c.loop-candidates.cx c.step.new.cx inv.keeps c.step.ensures.keeps;
       cache = AreCached-later m c.loop-candidates.cx c.step.new.cx c.loop-candidates.cache.entries.items c.step.ensures.keeps inv.cache;
-      entries = entries_keep m w c.loop-candidates.search.overflow_met c.loop-candidates.cx c.step.new.cx c.loop-candidates.cache.asked.items c.loop-candidates.cache.asked.items (steps ++ question_of m first c.args.entry ∷ []) c.loop-candidates.search.entries.lists.items c.step.ensures.keeps (λ place a at. at) inv.entries;
-      calm = inv.calm;
+      entries = entries_keep m w c.loop-candidates.cx c.step.new.cx c.loop-candidates.cache.asked.items c.loop-candidates.cache.asked.items (steps ++ question_of m first c.args.entry ∷ []) c.loop-candidates.search.entries.lists.items c.step.ensures.keeps (λ place a at. at) inv.entries;
       goals = inv.goals;
       results = inv.results;
       asked_before = inv.asked_before;
@@ -1351,7 +1330,7 @@ run_once-loop-candidates-preserved g t c =
           let had = inv.within before no last own cached in (
             (
               AreCachedWithin-keeps m w before (m.world c.loop-candidates.cx) c.loop-candidates.cx c.step.new.cx c.loop-candidates.cache.entries.items c.step.ensures.keeps inv.cache had.0.0,
-              entries_within_keep m w w c.loop-candidates.search.overflow_met before c.loop-candidates.cx c.step.new.cx c.loop-candidates.cache.asked.items (steps ++ question_of m first c.args.entry ∷ []) c.loop-candidates.search.entries.lists.items c.step.ensures.keeps inv.entries had.0.1,
+              entries_within_keep m w w before c.loop-candidates.cx c.step.new.cx c.loop-candidates.cache.asked.items (steps ++ question_of m first c.args.entry ∷ []) c.loop-candidates.search.entries.lists.items c.step.ensures.keeps inv.entries had.0.1,
             ),
             hears_other m w steps x c.args.entry.step_kind (indices c.loop-candidates.dependencies.heads.items) c.loop-candidates.cx c.loop-candidates.frame c.loop-candidates.request c.loop-candidates.request refl inv.keeps.world inv.running (IsGivenWithin m w before) c.in-Tell.reply had.1 told.due told.quiet,
           ));
@@ -1435,7 +1414,7 @@ run_once-returns-in-End-clause-entries g t c =
     let h : length c.loop-candidates.search.stack.items ≡ length (es ++ c.args.entry ∷ []) = ap length inv.stack in
     omega (arith, a, b, d, e, f, h)
     in
-    rw c.pop.ensures.met (runs_leave m (m.world first) c.loop-candidates.search.overflow_met c.loop-candidates.cx c.loop-candidates.cache.asked.items (steps_of m first es) (question_of m first c.args.entry) lists c.in-Some.left size (rw c.in-Some.ensures.ended at inv.entries))
+    runs_leave m (m.world first) c.loop-candidates.cx c.loop-candidates.cache.asked.items (steps_of m first es) (question_of m first c.args.entry) lists c.in-Some.left size (rw c.in-Some.ensures.ended at inv.entries)
 
 pub run_once-returns-in-End-clause-left : goal.run_once-returns-in-End-clause-left
 run_once-returns-in-End-clause-left g t c =
@@ -1453,10 +1432,7 @@ run_once-returns-in-End-clause-left g t c =
     let h : length c.loop-candidates.search.stack.items ≡ length (es ++ c.args.entry ∷ []) = ap length inv.stack in
     omega (arith, a, b, d, e, f, h)
     in
-    rw c.pop.ensures.met (runs_left m (m.world first) c.loop-candidates.search.overflow_met c.loop-candidates.cx c.loop-candidates.cache.asked.items (steps_of m first es) (question_of m first c.args.entry) lists c.in-Some.left size (rw c.in-Some.ensures.ended at inv.entries))
-
-pub run_once-returns-in-End-clause-calm : goal.run_once-returns-in-End-clause-calm
-run_once-returns-in-End-clause-calm g t c off = c.loop-candidates.invariant.calm (sym c.pop.ensures.met ∙ off)
+    runs_left m (m.world first) c.loop-candidates.cx c.loop-candidates.cache.asked.items (steps_of m first es) (question_of m first c.args.entry) lists c.in-Some.left size (rw c.in-Some.ensures.ended at inv.entries)
 
 pub run_once-returns-in-End-clause-range : goal.run_once-returns-in-End-clause-range
 run_once-returns-in-End-clause-range g t c =

@@ -30,8 +30,7 @@ invariant-evaluate_new-loop-run g l =
     record {
       keeps : KeepsContext m l.fn.cx l.cx;
       cache : AreCached m (m.world l.cx) l.cx l.cache.entries.items;
-      entries : AreProvisional m (m.world l.fn.cx) l.search.overflow_met l.cx l.cache.asked.items (steps_of m l.fn.cx l.fn.search.stack.items) l.search.entries.lists.items;
-      calm : l.search.overflow_met ≡ false → (l.fn.search.overflow_met ≡ false) × (l.dependencies.encountered_overflow ≡ false);
+      entries : AreProvisional m (m.world l.fn.cx) l.cx l.cache.asked.items (steps_of m l.fn.cx l.fn.search.stack.items) l.search.entries.lists.items;
       goals : KeepsNumbers g.D.Cx.Input.PartialEq.eq l.fn.cache.goals.keys l.cache.goals.keys;
       results : KeepsResults l.fn.cache.entries.items l.cache.entries.items;
       asked_before : KeepsResults l.fn.cache.asked.items l.cache.asked.items;
@@ -63,8 +62,7 @@ invariant-run_once-loop-candidates g l =
     record {
       keeps : KeepsContext m l.fn.cx l.cx;
       cache : AreCached m (m.world l.cx) l.cx l.cache.entries.items;
-      entries : AreProvisional m (m.world l.fn.cx) l.search.overflow_met l.cx l.cache.asked.items (steps_of m l.fn.cx l.fn.search.stack.items ++ question_of m l.fn.cx l.fn.entry ∷ []) l.search.entries.lists.items;
-      calm : l.search.overflow_met ≡ false → (l.fn.search.overflow_met ≡ false) × (l.dependencies.encountered_overflow ≡ false);
+      entries : AreProvisional m (m.world l.fn.cx) l.cx l.cache.asked.items (steps_of m l.fn.cx l.fn.search.stack.items ++ question_of m l.fn.cx l.fn.entry ∷ []) l.search.entries.lists.items;
       goals : KeepsNumbers g.D.Cx.Input.PartialEq.eq l.fn.cache.goals.keys l.cache.goals.keys;
       results : KeepsResults l.fn.cache.entries.items l.cache.entries.items;
       asked_before : KeepsResults l.fn.cache.asked.items l.cache.asked.items;

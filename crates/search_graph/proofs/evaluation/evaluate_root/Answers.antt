@@ -56,9 +56,6 @@ returns-in-Ok-clause-within g c = λ before no last cached.
 pub evaluate-requires-clause-entries : goal.evaluate-requires-clause-entries
 evaluate-requires-clause-entries g c head place e at = absurd (none_listed c.args.search.now.entries.lists.items (c.args.search.now.listed ∙ ap length c.requires.empty) head place e at)
 
-pub evaluate-requires-clause-descends : goal.evaluate-requires-clause-descends
-evaluate-requires-clause-descends g c off limit place s at = absurd (none-some s (rw c.requires.empty at at))
-
 pub returns-in-Ok-clause-cached : goal.returns-in-Ok-clause-cached
 returns-in-Ok-clause-cached g c = rw c.requires.empty at c.evaluate.ensures.cached
 

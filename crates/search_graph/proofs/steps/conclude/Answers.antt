@@ -22,22 +22,21 @@ returns-in_err-finish-clause-no_conflict g c =
     λ h. c.in_err-finish.ensures.no_conflict (fault_passed _ _ _ _ p.1 p.2 h)
 
 pub leave-requires-clause-entries : goal.leave-requires-clause-entries
-leave-requires-clause-entries g c = rw (c.count_end.ensures.stack, c.count_end.ensures.met, c.count_end.ensures.entries) c.requires.entries
+leave-requires-clause-entries g c = c.requires.entries
 
 pub leave-requires-clause-result : goal.leave-requires-clause-result
-leave-requires-clause-result g c = rw c.count_end.ensures.stack c.requires.result
+leave-requires-clause-result g c = c.requires.result
 
 pub leave-requires-clause-faithful : goal.leave-requires-clause-faithful
-leave-requires-clause-faithful g c = rw c.count_end.ensures.stack c.requires.faithful
+leave-requires-clause-faithful g c = c.requires.faithful
 
 pub leave-requires-clause-place : goal.leave-requires-clause-place
 leave-requires-clause-place g c =
     let heads = c.args.evaluation.dependencies.heads.items in
-    let low : c.in-Some.nearest < length c.args.search.now.stack.items = below_head (length c.args.search.now.stack.items) c.in-Some.nearest (indices heads) c.requires.below (rw c.deref.ensures.value at c.in-Some.ensures.head) in
-    rw c.count_end.ensures.stack low
+    below_head (length c.args.search.now.stack.items) c.in-Some.nearest (indices heads) c.requires.below (rw c.deref.ensures.value at c.in-Some.ensures.head)
 
 pub move_entries-requires-clause-below : goal.move_entries-requires-clause-below
-move_entries-requires-clause-below g c = rw (c.leave.ensures.stack ∙ c.count_end.ensures.stack, c.in_ok-reply.ensures.reply.heads) c.requires.below
+move_entries-requires-clause-below g c = rw (c.leave.ensures.stack, c.in_ok-reply.ensures.reply.heads) c.requires.below
 
 pub move_entries-requires-clause-rests : goal.move_entries-requires-clause-rests
 move_entries-requires-clause-rests g c place e at =
@@ -46,7 +45,7 @@ move_entries-requires-clause-rests g c place e at =
     let es = c.args.search.now.stack.items in
     let n = length-append (steps_of m cx es) ((m.goal_of cx c.args.goal.input, c.args.goal.step_kind) ∷ []) in
     let k = length-steps_of m cx es in
-    rw (c.leave.ensures.stack ∙ c.count_end.ensures.stack) (subst (λ n. AreBelow n (indices e.heads.items)) (omega (arith, n, k)) (c.requires.left place e at).below)
+    rw c.leave.ensures.stack (subst (λ n. AreBelow n (indices e.heads.items)) (omega (arith, n, k)) (c.requires.left place e at).below)
 
 pub returns-in-Some-clause-entries : goal.returns-in-Some-clause-entries
 returns-in-Some-clause-entries g c =
@@ -59,19 +58,19 @@ returns-in-Some-clause-entries g c =
     let listed : Asked = record { number = c.args.goal.number; nested_goals = c.args.evaluation.dependencies.nested_goals } in
     let place : c.len-asked.result ≡ length old = c.len-asked.ensures ∙ c.args.cache.now.asked.ok.0 in
     let here : slice_get asked c.len-asked.result ≡ Some listed = rw (c.in_ok-reply.ensures.listed, place) (at_end old listed) in
-    entries_moved m cx es c.args.goal.input c.args.goal.step_kind c.in_ok-reply.reply c.args.goal.depth c.reach_of-reach.result asked old c.len-asked.result listed c.args.search.now.overflow_met
+    entries_moved m cx es c.args.goal.input c.args.goal.step_kind c.in_ok-reply.reply c.args.goal.depth c.reach_of-reach.result asked old c.len-asked.result listed
     here (rw reply.heads c.requires.below) (λ none. subst (λ l. RestsOn l c.in-Some.nearest) (sym (ap (λ v. v.items) reply.heads) ∙ none) (rw c.deref.ensures.value at c.in-Some.ensures.head)) (rw (reply.heads, reply.result) c.requires.result)
     (rw reply.overflow c.reach_of-reach.ensures) (rw (reply.heads, reply.result, reply.overflow) c.requires.faithful)
     c.args.left.items c.leave.new.self.entries.lists.items c.move_entries.new.self.entries.lists.items c.requires.left
-    (rw (c.leave.ensures.stack ∙ c.count_end.ensures.stack) at c.in_ok-move_entries.ensures.moved)
-    (rw (c.count_end.ensures.stack, c.count_end.ensures.met) at c.in_ok-reply.ensures.entries)
+    (rw c.leave.ensures.stack at c.in_ok-move_entries.ensures.moved)
+    c.in_ok-reply.ensures.entries
 
 pub returns-in-Some-clause-entries_within : goal.returns-in-Some-clause-entries_within
 returns-in-Some-clause-entries_within g c before stay is =
     let m = g.D.Delegate.meaning in
     let cx = c.args.cx.now in
     let lists = c.args.search.now.entries.lists.items in
-    let kept = rw c.count_end.ensures.entries at c.in_ok-reply.ensures.within in
+    let kept = c.in_ok-reply.ensures.within in
     entries_within_moved m (m.world cx) before cx c.leave.new.self.stack.items c.args.goal.step_kind c.in_ok-reply.reply c.reach_of-reach.result c.len-asked.result c.args.left lists c.leave.new.self.entries.lists.items c.move_entries.new.self.entries.lists.items
     c.in_ok-move_entries.ensures.moved stay (kept before (entries_within_leave m (m.world cx) before cx lists c.args.left stay) is)
 
@@ -80,14 +79,13 @@ returns-clause-entries g c =
     let m = g.D.Delegate.meaning in
     let cx = c.args.cx.now in
     let es = c.args.search.now.stack.items in
-    rw c.count_end.ensures.entries
-    (entries_keep m (m.world cx) c.args.search.now.overflow_met cx cx c.args.cache.now.asked.items c.finish.new.cache.asked.items (steps_of m cx es) c.args.search.now.entries.lists.items (Keeps-refl m cx) c.finish.ensures.asked_before c.requires.entries)
+    entries_keep m (m.world cx) cx cx c.args.cache.now.asked.items c.finish.new.cache.asked.items (steps_of m cx es) c.args.search.now.entries.lists.items (Keeps-refl m cx) c.finish.ensures.asked_before c.requires.entries
 
 pub returns-clause-entries_within : goal.returns-clause-entries_within
 returns-clause-entries_within g c before stay is =
     let m = g.D.Delegate.meaning in
     let cx = c.args.cx.now in
-    rw c.count_end.ensures.entries (entries_within_leave m (m.world cx) before cx c.args.search.now.entries.lists.items c.args.left stay)
+    entries_within_leave m (m.world cx) before cx c.args.search.now.entries.lists.items c.args.left stay
 
 pub returns-then-not-count_end-clause-exhausted : goal.returns-then-not-count_end-clause-exhausted
 returns-then-not-count_end-clause-exhausted g c h =

@@ -69,6 +69,9 @@ use_entry-requires-clause-entries g c = rw c.number_of.ensures.asked c.requires.
 pub returns-in-Some-clause-range : goal.returns-in-Some-clause-range
 returns-in-Some-clause-range g c = rw c.number_of.ensures.asked at c.in_ok-reply.ensures.range
 
+pub returns-in-Some-clause-within : goal.returns-in-Some-clause-within
+returns-in-Some-clause-within g c = λ before kept. c.in_ok-reply.ensures.within before kept.1
+
 pub returns-in-Some-clause-faithful : goal.returns-in-Some-clause-faithful
 returns-in-Some-clause-faithful g c =
     let m = g.D.Delegate.meaning in

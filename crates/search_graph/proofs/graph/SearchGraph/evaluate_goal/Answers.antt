@@ -20,7 +20,7 @@ evaluate_root-requires-clause-cache g c =
 
 pub evaluate_root-requires-clause-empty : goal.evaluate_root-requires-clause-empty
 evaluate_root-requires-clause-empty g c =
-    c.begin_call-before.ensures.stack ∙ empty_of_length c.self.inside.search.stack.items (ap (λ s. s.current_depth) c.self.view_is ∙ c.requires.empty)
+    empty_of_length c.self.inside.search.stack.items (ap (λ s. s.current_depth) c.self.view_is ∙ c.requires.empty)
 
 pub returns-clause-cache : goal.returns-clause-cache
 returns-clause-cache g c = AreJustified-known g.D.Delegate.meaning c.evaluate_root.new.cx c.evaluate_root.new.cache.entries.items c.evaluate_root.ensures.cache
@@ -77,8 +77,8 @@ returns-clause-no_limit g c =
     let before : c.self.inside.search.limits_met ≡ c.args.self.now.limits_met = ap (λ s. s.limits_met) c.self.view_is in
     let claim = c.evaluate_root.ensures.no_limit in
     elim c.match-evaluate_root.branch [
-      | in-Ok w ↦ λ off on n b within p. claim (c.begin_call-before.ensures.limits ∙ before ∙ off) (rw w.self-is at on) (c.args.self.now.root_depth + 1) (omega arith) (λ place s at. absurd (none-some s at)) n b within p
-      | in-Err w ↦ λ off on n b within p. claim (c.begin_call-before.ensures.limits ∙ before ∙ off) (sym w.clear.ensures.limits ∙ (rw w.self-is at on)) (c.args.self.now.root_depth + 1) (omega arith) (λ place s at. absurd (none-some s at)) n b within p
+      | in-Ok w ↦ λ off on n b within p. claim (before ∙ off) (rw w.self-is at on) (c.args.self.now.root_depth + 1) (omega arith) (λ place s at. absurd (none-some s at)) n b within p
+      | in-Err w ↦ λ off on n b within p. claim (before ∙ off) (sym w.clear.ensures.limits ∙ (rw w.self-is at on)) (c.args.self.now.root_depth + 1) (omega arith) (λ place s at. absurd (none-some s at)) n b within p
     ]
 
 pub returns-clause-cached : goal.returns-clause-cached
@@ -90,8 +90,8 @@ returns-clause-cached g c = λ place k at same within.
     let told = c.evaluate_root.ensures.cached place found.0 found.1 (ap (λ z. z.input) found.2 ∙ same) usable (λ asked under on. true_not_false (sym on)) in
     let kept = ap (λ v. known_results v.items) told.1 ∙ c.cache.view_is in
     elim c.match-evaluate_root.branch [
-      | in-Ok w ↦ (rw w.self-is (told.0 ∙ c.begin_call-before.ensures.frames ∙ frames), kept)
-      | in-Err w ↦ (rw w.self-is (w.clear.ensures.frames ∙ told.0 ∙ c.begin_call-before.ensures.frames ∙ frames), kept)
+      | in-Ok w ↦ (rw w.self-is (told.0 ∙ frames), kept)
+      | in-Err w ↦ (rw w.self-is (w.clear.ensures.frames ∙ told.0 ∙ frames), kept)
     ]
 
 pub returns-clause-known : goal.returns-clause-known
@@ -135,7 +135,7 @@ returns-clause-kept g c =
 
 pub returns-clause-rises : goal.returns-clause-rises
 returns-clause-rises g c =
-    let frames : c.begin_call-before.new.self.frames ≡ c.args.self.now.frames = c.begin_call-before.ensures.frames ∙ ap (λ s. s.frames) c.self.view_is in
+    let frames : c.self.inside.search.frames ≡ c.args.self.now.frames = ap (λ s. s.frames) c.self.view_is in
     let rises = rw frames at c.evaluate_root.ensures.rises in
     elim c.match-evaluate_root.branch [
       | in-Ok w ↦ rw w.self-is rises
@@ -145,7 +145,7 @@ returns-clause-rises g c =
 pub returns-clause-counted : goal.returns-clause-counted
 returns-clause-counted g c =
     let depth : c.self.inside.root_depth ≡ c.args.self.now.root_depth = ap (λ s. s.root_depth) c.self.view_is in
-    let frames : c.begin_call-before.new.self.frames ≡ c.args.self.now.frames = c.begin_call-before.ensures.frames ∙ ap (λ s. s.frames) c.self.view_is in
+    let frames : c.self.inside.search.frames ≡ c.args.self.now.frames = ap (λ s. s.frames) c.self.view_is in
     elim c.match-evaluate_root.branch [
       | in-Ok w ↦ rw (w.result-is, w.self-is) (elim w.in-Ok.ensures.counted [
         | inl told ↦ inl (
