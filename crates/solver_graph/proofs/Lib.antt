@@ -19,3 +19,4 @@ pub mod WithoutCanonical
 pub mod Shortages
 pub mod Settled
 pub mod Askings
+pub mod LeftTables

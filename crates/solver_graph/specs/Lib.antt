@@ -13,3 +13,4 @@ pub mod WithoutCanonical
 pub mod RootEvaluations
 pub mod Settling
 pub mod Askings
+pub mod LeftTables

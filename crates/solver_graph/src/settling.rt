@@ -3,6 +3,7 @@
 
 ghost use Rattle.std.specs.Prelude.{◌≡◌, ◌-◌, Ok, IfErr};
 ghost use Rattle.solver_graph.specs.Askings.{AskingsOf, IsLeftByAnswer, StartsFramesOfAsking};
+ghost use Rattle.solver_graph.specs.LeftTables.{IsLeftByAnswers};
 ghost use Rattle.solver_graph.specs.Settling.{IsAskable, HasAsked, IsProvedBy, GoalIsRefused, RefusalIsKept, IsUnsettled};
 ghost use Rattle.solver_graph.specs.Shortages.{ContextFullAtLimit};
 ghost use Rattle.solver_graph.specs.declared.settling.TheConstants.{MAX_ASKINGS};
@@ -81,6 +82,7 @@ fn ask_once<H: GoalHandler>(
     requires { IsAskable H.meaning search.old.graph search.old.cache search.old.cx table.old goal.now }
     ensures again { IsAskable H.meaning search.new.graph search.new.cache search.new.cx table.new goal.now }
     ensures asked { HasAsked H.meaning search.old.graph search.old.cache search.old.cx table.old search.new.graph search.new.cache search.new.cx table.new }
+    ensures covers { IsLeftByAnswers H.meaning search.old.cx table.old mode goal.now search.new.cx table.new }
     ensures holds { result ≡ Ok Asking.Holds
         → IsProvedBy H.meaning (H.meaning.world search.old.cx.handler search.old.cx.interner.entries) search.old.cx table.old search.new.cx table.new goal.now }
     ensures changes { result ≡ Ok Asking.Changes → IsUnsettled H.meaning search.old.cx search.old.graph table.old mode goal.now }
@@ -109,6 +111,7 @@ fn ask_again<H: GoalHandler>(
     requires { IsAskable H.meaning search.old.graph search.old.cache search.old.cx table.old goal.now }
     ensures again { IsAskable H.meaning search.new.graph search.new.cache search.new.cx table.new goal.now }
     ensures asked { HasAsked H.meaning search.old.graph search.old.cache search.old.cx table.old search.new.graph search.new.cache search.new.cx table.new }
+    ensures covers { IsLeftByAnswers H.meaning search.old.cx table.old mode goal.now search.new.cx table.new }
     ensures proved { result ≡ Ok Outcome.Proved
         → IsProvedBy H.meaning (H.meaning.world search.old.cx.handler search.old.cx.interner.entries) search.old.cx table.old search.new.cx table.new goal.now }
     ensures not_unproved { result ≡ Ok Outcome.Unproved → ⊥ }
@@ -135,8 +138,8 @@ fn ask_again<H: GoalHandler>(
 ///   answer was no definite yes, or plain recursion has none within the depth.
 ///
 /// Fails with `Memory` if memory is refused, or if the table has no numbers for the goal's form or for its answer. Fails with `Full` only
-/// if a table of the context is at its limit. The goal can be evaluated again in each case, and each solution of the table is one that it
-/// had before.
+/// if a table of the context is at its limit. The goal can be evaluated again in each case. Each solution of the table is one that it had
+/// before, and none is lost at which the goal has a proof in one of the handler's worlds, if both hold the table's variables alone.
 ///
 /// rustc: `evaluate_root_goal` in the loop of `FulfillmentCtxt` of `rustc_trait_selection`, for one goal.
 pub fn ask_until_settled<H: GoalHandler>(
@@ -148,6 +151,7 @@ pub fn ask_until_settled<H: GoalHandler>(
     requires { IsAskable H.meaning search.old.graph search.old.cache search.old.cx table.old goal.now }
     ensures again { IsAskable H.meaning search.new.graph search.new.cache search.new.cx table.new goal.now }
     ensures asked { HasAsked H.meaning search.old.graph search.old.cache search.old.cx table.old search.new.graph search.new.cache search.new.cx table.new }
+    ensures covers { IsLeftByAnswers H.meaning search.old.cx table.old mode goal.now search.new.cx table.new }
     ensures proved { result ≡ Ok Outcome.Proved
         → IsProvedBy H.meaning (H.meaning.world search.old.cx.handler search.old.cx.interner.entries) search.old.cx table.old search.new.cx table.new goal.now }
     ensures unproved { result ≡ Ok Outcome.Unproved → GoalIsRefused H.meaning search.old.cx search.old.graph table.old mode goal.now }

@@ -1,6 +1,11 @@
-use Rattle.std.proofs.Common.{rules, ◌≡◌, ◌+◌, ◌-◌, suc, Ok}
+use Rattle.std.proofs.Common.{rules, ◌≡◌, ◌+◌, ◌-◌, suc, refl, Ok}
+use Rattle.infer_table.specs.Growth.{grows-refl}
+use Rattle.search_graph.proofs.Graphs.{Keeps-refl}
+use Rattle.solver_graph.specs.LeftTables.{itself}
+use Rattle.solver_graph.specs.Searching.{solver_meaning}
 use Rattle.solver_graph.specs.declared.settling.Asking.TheVariants as asking
 use Rattle.solver_graph.proofs.Settled.{asked-further, proved-further}
+use Rattle.solver_graph.proofs.LeftTables.{left-further}
 use Rattle.solver_graph.specs.declared.settling.TheConstants.{MAX_ASKINGS}
 use Rattle.solver_graph.proofs.Askings.{one-less, once, again, as-many, asked-none}
 use Rattle.solver_graph.proofs.settling.ask_again.Goals as goal
@@ -24,10 +29,29 @@ returns-in-Holds-clause-proved g c = λ _.
     c.loop-asking.invariant.asked.keeps.world c.args.search.now.graph c.loop-asking.search.graph c.args.search.now.cache c.loop-asking.search.cache c.args.search.now.cx c.loop-asking.search.cx c.ask_once.new.search.cx c.args.table.now c.loop-asking.table c.ask_once.new.table
     c.args.goal.now c.requires.goal c.loop-asking.invariant.asked (c.ask_once.ensures.holds done)
 
+pub loop-asking-init : goal.loop-asking-init
+loop-asking-init g c = record {
+  again = c.requires;
+  asked = record {
+    depth = refl;
+    results = λ place x i. i;
+    consistent = λ i. i;
+    keeps = Keeps-refl (solver_meaning g.H.GoalHandler.meaning) c.args.search.now.cx;
+    entries = λ i x p. p;
+    grows = grows-refl c.args.table.now;
+    narrows = λ s i. i;
+    clean = λ i. i;
+  };
+  covers = itself;
+  frames = λ s h. h;
+}
+
 pub loop-asking-preserved : goal.loop-asking-preserved
 loop-asking-preserved g c = record {
   again = c.ask_once.ensures.again;
   asked = asked-further g.H.GoalHandler.meaning c.args.search.now.graph c.loop-asking.search.graph c.ask_once.new.search.graph c.args.search.now.cache c.loop-asking.search.cache c.ask_once.new.search.cache c.args.search.now.cx c.loop-asking.search.cx c.ask_once.new.search.cx c.args.table.now c.loop-asking.table c.ask_once.new.table c.loop-asking.invariant.asked c.ask_once.ensures.asked;
+  covers = left-further g.H.GoalHandler.meaning c.args.mode c.args.search.now.graph c.loop-asking.search.graph c.args.search.now.cache c.loop-asking.search.cache c.args.search.now.cx c.loop-asking.search.cx c.ask_once.new.search.cx c.args.table.now c.loop-asking.table c.ask_once.new.table
+      c.args.goal.now c.requires.goal c.loop-asking.invariant.asked c.loop-asking.invariant.covers c.ask_once.ensures.covers;
   frames = λ s h.
       let i = c.loop-asking._asking in
       let m = g.H.GoalHandler.meaning in
@@ -66,3 +90,18 @@ pub returns-clause-frames : goal.returns-clause-frames
 returns-clause-frames g c =
     let m = g.H.GoalHandler.meaning in
     c.loop-asking.invariant.frames c.loop-asking.search.graph (asked-none m c.args.mode _ _ _ (MAX_ASKINGS - c.loop-asking._asking) _ c.loop-asking.search.graph.frames)
+
+pub returns-in_err-ask_once-clause-covers : goal.returns-in_err-ask_once-clause-covers
+returns-in_err-ask_once-clause-covers g c =
+    left-further g.H.GoalHandler.meaning c.args.mode c.args.search.now.graph c.loop-asking.search.graph c.args.search.now.cache c.loop-asking.search.cache c.args.search.now.cx c.loop-asking.search.cx c.ask_once.new.search.cx c.args.table.now c.loop-asking.table c.ask_once.new.table
+    c.args.goal.now c.requires.goal c.loop-asking.invariant.asked c.loop-asking.invariant.covers c.ask_once.ensures.covers
+
+pub returns-in-Holds-clause-covers : goal.returns-in-Holds-clause-covers
+returns-in-Holds-clause-covers g c =
+    left-further g.H.GoalHandler.meaning c.args.mode c.args.search.now.graph c.loop-asking.search.graph c.args.search.now.cache c.loop-asking.search.cache c.args.search.now.cx c.loop-asking.search.cx c.ask_once.new.search.cx c.args.table.now c.loop-asking.table c.ask_once.new.table
+    c.args.goal.now c.requires.goal c.loop-asking.invariant.asked c.loop-asking.invariant.covers c.ask_once.ensures.covers
+
+pub returns-in-IsUnsure-clause-covers : goal.returns-in-IsUnsure-clause-covers
+returns-in-IsUnsure-clause-covers g c =
+    left-further g.H.GoalHandler.meaning c.args.mode c.args.search.now.graph c.loop-asking.search.graph c.args.search.now.cache c.loop-asking.search.cache c.args.search.now.cx c.loop-asking.search.cx c.ask_once.new.search.cx c.args.table.now c.loop-asking.table c.ask_once.new.table
+    c.args.goal.now c.requires.goal c.loop-asking.invariant.asked c.loop-asking.invariant.covers c.ask_once.ensures.covers

@@ -8,6 +8,7 @@ use Rattle.solver_graph.specs.Roots.{goal_in}
 use Rattle.solver_graph.specs.declared.outcome.RootError.TheVariants as Root
 use Rattle.solver_graph.proofs.Settled.{not-definite-changed, not-definite-unsure, ok-same, narrows-refused, clean-refused, proved-once}
 use Rattle.solver_graph.proofs.Askings.{older-are-terms}
+use Rattle.solver_graph.proofs.LeftTables.{left-once, left-refused}
 use Rattle.solver_graph.proofs.settling.ask_once.Goals as goal
 
 pub returns-in-Ok-clause-again : goal.returns-in-Ok-clause-again
@@ -104,3 +105,13 @@ returns-in-Err-clause-kept g c = λ e.
 pub returns-in-Err-clause-full : goal.returns-in-Err-clause-full
 returns-in-Err-clause-full g c =
     IfErr-weaker c.read_error.result _ _ (λ f is q. c.in-Err.ensures.faults.full (is ∙ ap Root.Fault q)) c.read_error.ensures.fault
+
+pub returns-in-Ok-clause-covers : goal.returns-in-Ok-clause-covers
+returns-in-Ok-clause-covers g c =
+    let a = c.in-Ok.ensures.says.answer in
+    left-once g.H.GoalHandler.meaning c.args.mode c.args.search.now.cx c.evaluate.new.self.cx c.args.table.now c.evaluate.new.table c.args.goal.now a.0 a.3 c.in-Ok.ensures.says.covers
+
+pub returns-in-Err-clause-covers : goal.returns-in-Err-clause-covers
+returns-in-Err-clause-covers g c =
+    left-refused g.H.GoalHandler.meaning c.args.mode c.args.search.now.cx c.evaluate.new.self.cx c.args.table.now c.evaluate.new.table c.args.goal.now c.evaluate.ensures.rests.entries c.requires.table
+    c.in-Err.ensures.refusal.unchanged

@@ -1,5 +1,6 @@
 use Rattle.std.proofs.Common.{rules, ◌≡◌, ◌-◌, suc, refl, Ok}
 use Rattle.solver_graph.proofs.Settled.{asked-further, proved-further}
+use Rattle.solver_graph.proofs.LeftTables.{left-further}
 use Rattle.solver_graph.specs.declared.settling.TheConstants.{MAX_ASKINGS}
 use Rattle.solver_graph.specs.declared.settling.Asking.TheVariants as asking
 use Rattle.solver_graph.proofs.Askings.{once, again, as-many}
@@ -47,3 +48,8 @@ returns-in-Changes-clause-frames g c =
     as-many m c.args.mode (suc (MAX_ASKINGS - 1)) MAX_ASKINGS c.args.search.now.cx c.args.search.now.graph c.ask_again.new.search.graph c.args.table.now c.args.goal.now refl
     (again m c.args.mode (MAX_ASKINGS - 1) c.args.search.now.cx c.ask_once.new.search.cx c.args.search.now.graph c.ask_once.new.search.graph c.ask_again.new.search.graph c.args.table.now c.ask_once.new.table c.args.goal.now c.requires.goal
     c.ask_once.ensures.asked.entries c.ask_once.ensures.asked.keeps.world c.ask_once.ensures.asked.depth c.ask_once.ensures.frames (c.ask_once.ensures.left done) c.ask_again.ensures.frames)
+
+pub returns-in-Changes-clause-covers : goal.returns-in-Changes-clause-covers
+returns-in-Changes-clause-covers g c =
+    left-further g.H.GoalHandler.meaning c.args.mode c.args.search.now.graph c.ask_once.new.search.graph c.args.search.now.cache c.ask_once.new.search.cache c.args.search.now.cx c.ask_once.new.search.cx c.ask_again.new.search.cx
+    c.args.table.now c.ask_once.new.table c.ask_again.new.table c.args.goal.now c.requires.goal c.ask_once.ensures.asked c.ask_once.ensures.covers c.ask_again.ensures.covers
