@@ -56,7 +56,7 @@ abbrev pub AllOwn : (Sort → ℕ) → List Binding → Type 0
 AllOwn n [] = Unit {0}
 AllOwn n (b ∷ older) = AreOwn n b.value × AllOwn n older
 
-all-more : (n m : Sort → ℕ) → NoFewer n m → (bs : List Binding) → AllOwn n bs → AllOwn m bs
+pub all-more : (n m : Sort → ℕ) → NoFewer n m → (bs : List Binding) → AllOwn n bs → AllOwn m bs
 all-more n m le [] h = tt
 all-more n m le (b ∷ older) h = (own-more n m le b.value h.0, all-more n m le older h.1)
 
@@ -182,7 +182,7 @@ module _ (good : Label → Bool) (opens : (v : ℕ) → good (infer of_lifetime 
   either t true x y p q = p
   either t false x y p q = q
 
-  bound-more : (t : TableTrees) (k : Sort) (v : ℕ) (x : Trees) → NoFewer (unknowns_of t) (unknowns_of (with_binding t k v x))
+  pub bound-more : (t : TableTrees) (k : Sort) (v : ℕ) (x : Trees) → NoFewer (unknowns_of t) (unknowns_of (with_binding t k v x))
   bound-more t of_type v x of_type = omega arith
   bound-more t of_type v x of_const = omega arith
   bound-more t of_type v x of_lifetime = omega arith
@@ -204,7 +204,7 @@ module _ (good : Label → Bool) (opens : (v : ℕ) → good (infer of_lifetime 
       ((own-more (unknowns_of t) (unknowns_of u) le x g.0, all-more (unknowns_of t) (unknowns_of u) le t.bindings h.0), (g.1, h.1))
   bound-own t of_lifetime v x h g = h
 
-  regions-more : (t : TableTrees) (m : ℕ) → NoFewer (unknowns_of t) (unknowns_of (with_regions t m))
+  pub regions-more : (t : TableTrees) (m : ℕ) → NoFewer (unknowns_of t) (unknowns_of (with_regions t m))
   regions-more t m of_type = omega arith
   regions-more t m of_const = omega arith
   regions-more t m of_lifetime = omega arith
