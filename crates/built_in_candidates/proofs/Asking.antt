@@ -12,7 +12,7 @@ use Rattle.declarations.proofs.Growth.{reference-same}
 use Rattle.candidate_model.specs.Asking.{GoalOverKinds}
 use Rattle.candidate_model.specs.Candidates.{as_written, by_rule}
 use Rattle.built_in_candidates.specs.Goals.{asked_of}
-use Rattle.built_in_candidates.specs.Constituents.{premises_of}
+use Rattle.structural_traits.specs.Constituents.{premises_of}
 
 pub asked-later : (old new : List Entry) → Keeps old new → (g : CanonicalInput) → GoalHeld old g.goal → asked_of new g ≡ asked_of old g
 asked-later old new k g h =

@@ -20,7 +20,8 @@ use Rattle.declarations.specs.Promised.Elaboration.{Each}
 use Rattle.declarations.proofs.Growth.{each-kept, all-held}
 use Rattle.candidate_model.specs.Asking.{self_of, with_plain_head}
 use Rattle.built_in_candidates.specs.Goals.{asked_of}
-use Rattle.built_in_candidates.specs.Constituents.{HaveFields, StructIsApplied, CanBeConsidered}
+use Rattle.structural_traits.specs.Constituents.{HaveFields, StructIsApplied}
+use Rattle.built_in_candidates.specs.Constituents.{CanBeConsidered}
 use Rattle.built_in_candidates.specs.BuiltIn.{HavePlainHeads}
 use Rattle.built_in_candidates.specs.Objects.{ObjectIsApplied}
 use Rattle.built_in_candidates.specs.Unsizing.{CanUnsize}

@@ -1,6 +1,4 @@
 pub mod Lists
-pub mod Trees
-pub mod Structs
 pub mod Asking
 pub mod Heads
 pub mod Pairs

@@ -19,7 +19,7 @@ use Rattle.declarations.specs.Items.{Items, struct_at}
 use Rattle.declarations.specs.Unsizing.{unsizing_flags, field_trees}
 use Rattle.candidate_model.specs.Asking.{GoalOverKinds}
 use Rattle.candidate_model.specs.Candidates.{by_rule, misc, all_equal, if_so, unsize_by_struct, unsize_struct_of}
-use Rattle.built_in_candidates.specs.Constituents.{AreArguments}
+use Rattle.structural_traits.specs.Constituents.{AreArguments}
 use Rattle.built_in_candidates.specs.Unsizing.{begins_struct, replaced, tail_asked, FitsStruct}
 use Rattle.built_in_candidates.proofs.Objects.{differ}
 use Rattle.built_in_candidates.proofs.Pairs.{arg-tree}

@@ -14,7 +14,8 @@ use Rattle.infer_table.specs.declared.canonical.CanonicalVarKind.{CanonicalVarKi
 use Rattle.candidate_model.specs.Asking.{GoalOverKinds, self_of, next_of, with_plain_head, begins_unknown}
 use Rattle.candidate_model.specs.Candidates.{Candidate, as_written, misc, if_so, unsure, unsize_array_of, upcasts_of, unsize_struct_of, unsize_known, unsize_recording, by_unsize}
 use Rattle.built_in_candidates.specs.Goals.{candidate_of}
-use Rattle.built_in_candidates.specs.Constituents.{StructIsApplied, candidates_of}
+use Rattle.structural_traits.specs.Constituents.{StructIsApplied}
+use Rattle.built_in_candidates.specs.Constituents.{candidates_of}
 use Rattle.built_in_candidates.specs.Objects.{bounds_of}
 use Rattle.built_in_candidates.specs.Unsizing.{BeginsWith, TargetIsApplied}
 use Rattle.built_in_candidates.proofs.Objects.{differ}

@@ -18,7 +18,7 @@ use Rattle.declarations.specs.Items.{Items}
 use Rattle.declarations.specs.Promised.Elaboration.{Each}
 use Rattle.candidate_model.specs.Asking.{GoalOverKinds, next_of}
 use Rattle.candidate_model.specs.Candidates.{Candidate, by_rule, misc, if_so}
-use Rattle.built_in_candidates.specs.Constituents.{AreArguments}
+use Rattle.structural_traits.specs.Constituents.{AreArguments}
 use Rattle.built_in_candidates.specs.Objects.{AreArgumentsOf}
 
 -- The element type of an array, if the first type is one.

@@ -2,75 +2,34 @@
 ghost use Rattle.type_terms.specs.Growth.{GrewOrFull};
 ghost use Rattle.std.specs.Prelude.{◌≡◌, List, IfOk, IfSome};
 ghost use Rattle.type_terms.specs.Promised.Worlds.{World};
-ghost use Rattle.type_terms.specs.Promised.Rules.{Rule, sized, asked};
-ghost use Rattle.type_terms.specs.Promised.Handles.{Has, types, trees_at};
+ghost use Rattle.type_terms.specs.Kinds.{TysHeld};
+ghost use Rattle.type_terms.specs.Promised.Rules.{Rule};
+ghost use Rattle.type_terms.specs.Promised.Handles.{trees_at};
 ghost use Rattle.term_folds.specs.Signatures.{StartsWithType};
 ghost use Rattle.infer_table.specs.Goals.{GoalHeld};
 ghost use Rattle.goal_evaluator.specs.Readings.{SpecHeld};
-ghost use Rattle.declarations.specs.Items.{reference_in, written};
-ghost use Rattle.declarations.specs.Held.{ReferenceHeld};
-ghost use Rattle.declarations.specs.Applied.{references_in, TraitRefsHeld};
+ghost use Rattle.declarations.specs.Items.{written};
 ghost use Rattle.candidate_model.specs.Candidates.{as_written};
 ghost use Rattle.built_in_candidates.specs.Goals.{asked_of};
-ghost use Rattle.built_in_candidates.specs.Constituents.{AreConstituents, TypesHeld, CanBeConsidered, types_asked, candidates_of};
+ghost use Rattle.structural_traits.specs.Constituents.{AreConstituents};
+ghost use Rattle.built_in_candidates.specs.Constituents.{CanBeConsidered, candidates_of};
 ghost use Rattle.built_in_candidates.specs.BuiltIn.{sized_candidates, copy_candidates, auto_candidates, tuple_candidates, fn_ptr_candidates, HavePlainHeads};
 
 use crate::parts::by_rule;
-use crate::structural::{
-    constituents_for_fn_ptr_trait, constituents_for_tuple_trait,
-    instantiate_constituent_tys_for_auto_trait, instantiate_constituent_tys_for_copy_clone_trait,
-    instantiate_constituent_tys_for_sized_trait,
-};
+use declarations::core_traits::SIZED;
 use declarations::declarations::Declarations;
 use goal_evaluator::{BuiltinImplSource, CandidateSource, CandidateSpec};
 use infer_table::input::CanonicalInput;
 use std::alloc::Global;
-use term_folds::predicate::TraitRef;
+use structural_traits::asked::types_asked;
+use structural_traits::constituents::{
+    constituents_for_fn_ptr_trait, constituents_for_tuple_trait,
+    instantiate_constituent_tys_for_auto_trait, instantiate_constituent_tys_for_copy_clone_trait,
+    instantiate_constituent_tys_for_sized_trait,
+};
 use type_terms::interner::Interner;
-use type_terms::kinds::{GenericArgKind, Ty};
+use type_terms::kinds::Ty;
 use type_terms::{Fault, TraitId};
-
-/// The trait `Sized` of `core`.
-pub const SIZED: u32 = 0;
-
-/// The trait reference `ty: Trait`, for a trait whose only parameter is Self.
-pub(crate) fn type_asked(
-    alloc: Global,
-    cx: &mut Interner,
-    def_id: TraitId,
-    ty: Ty,
-) -> Result<TraitRef, Fault>
-    requires { Has cx.old.entries types ty.0 }
-    ensures terms { GrewOrFull cx.old cx.new result }
-    ensures held { IfOk result (ReferenceHeld cx.new.entries) }
-    ensures is { IfOk result (λ r. reference_in cx.new.entries r ≡ asked def_id.index (trees_at cx.old.entries ty.0)) }
-{
-    let list = vec![in alloc; GenericArgKind::Ty(ty)]?;
-    let args = cx.mk_args(list)?;
-    Ok(TraitRef { def_id, args })
-}
-
-/// The trait reference `ty: Trait` for each of the types. The trait's only parameter is Self.
-pub(crate) fn types_asked(
-    alloc: Global,
-    cx: &mut Interner,
-    def_id: TraitId,
-    tys: &[Ty],
-) -> Result<Vec<TraitRef>, Fault>
-    requires { TypesHeld cx.old.entries tys.now }
-    ensures terms { GrewOrFull cx.old cx.new result }
-    ensures held { IfOk result (λ v. TraitRefsHeld cx.new.entries v.items) }
-    ensures are { IfOk result (λ v. references_in cx.new.entries v.items ≡ types_asked cx.old.entries def_id.index tys.now) }
-{
-    let mut found = Vec::new(alloc);
-    let mut left = tys;
-    'tys: while let Some((ty, others)) = left.split_first() {
-        let trait_ref = type_asked(alloc, cx, def_id, *ty)?;
-        found.push(trait_ref)?;
-        left = others;
-    }
-    Ok(found)
-}
 
 /// The candidate whose premises are the constituents of a type, each with the trait. Returns `None` if the type has no such rule.
 /// rustc: `probe_and_evaluate_goal_for_constituent_tys`.
@@ -83,7 +42,7 @@ fn for_constituent_tys(
     tys: Option<Vec<Ty>>,
 ) -> Result<Option<CandidateSpec>, Fault>
     requires goal { GoalHeld cx.old.entries goal.now.goal }
-    requires held { IfSome tys (λ v. TypesHeld cx.old.entries v.items) }
+    requires held { IfSome tys (λ v. TysHeld cx.old.entries v.items) }
     ensures terms { GrewOrFull cx.old cx.new result }
     ensures held { IfOk result (λ o. IfSome o (SpecHeld cx.new.entries)) }
     ensures is { IfOk result (λ o. (V : World) (us : List Rule) → AreConstituents (λ v. v.items) cx.old.entries def_id.index us tys

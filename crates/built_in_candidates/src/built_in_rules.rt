@@ -17,33 +17,19 @@ ghost use Rattle.built_in_candidates.specs.Unsizing.{CanUnsize};
 ghost use Rattle.built_in_candidates.specs.BuiltInRules.{speaks_of, of_rule, by_the_rule, IsBehind};
 
 use crate::built_in::{
-    SIZED, consider_auto_trait_candidate, consider_builtin_copy_clone_candidate,
+    consider_auto_trait_candidate, consider_builtin_copy_clone_candidate,
     consider_builtin_fn_ptr_trait_candidate, consider_builtin_sized_candidate,
     consider_builtin_tuple_candidate,
 };
 use crate::calls::consider_builtin_fn_trait_candidates;
 use crate::unsize::consider_builtin_unsize_candidate;
+use declarations::core_traits::{CLONE, COPY, FN, FN_MUT, FN_ONCE, FN_PTR, SIZED, TUPLE};
 use declarations::declarations::Declarations;
 use goal_evaluator::CandidateSpec;
 use infer_table::input::CanonicalInput;
 use std::alloc::Global;
 use type_terms::interner::Interner;
 use type_terms::{Fault, TraitId};
-
-/// `Clone`, `Copy`, `Tuple`, `FnPtr`, `FnOnce`, `FnMut` and `Fn` of `core`.
-const CLONE: u32 = 1;
-
-const COPY: u32 = 2;
-
-const TUPLE: u32 = 3;
-
-const FN_PTR: u32 = 4;
-
-const FN_ONCE: u32 = 5;
-
-const FN_MUT: u32 = 6;
-
-const FN: u32 = 7;
 
 /// The built-in rules that give at most one candidate.
 #[derive(Clone, Copy)]

@@ -20,13 +20,14 @@ ghost use Rattle.built_in_candidates.specs.Goals.{asked_of, candidate_of};
 ghost use Rattle.built_in_candidates.specs.Constituents.{candidates_of};
 ghost use Rattle.built_in_candidates.specs.FnPointers.{call_candidates, signature_of, IsFirst};
 
-use crate::built_in::{SIZED, types_asked};
 use crate::parts::by_rule;
-use crate::structural::last_alone;
+use declarations::core_traits::SIZED;
 use goal_evaluator::{BuiltinImplSource, CandidateSource, CandidateSpec};
 use infer_table::input::CanonicalInput;
 use infer_table::terms::Equation;
 use std::alloc::Global;
+use structural_traits::asked::types_asked;
+use structural_traits::constituents::last_alone;
 use term_folds::predicate::TraitRef;
 use type_terms::interner::Interner;
 use type_terms::kinds::{GenericArgKind, GenericArgs, Ty, TyKind, Tys};

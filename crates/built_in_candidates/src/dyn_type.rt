@@ -15,8 +15,8 @@ ghost use Rattle.declarations.specs.Promised.Elaboration.{elaborate};
 ghost use Rattle.built_in_candidates.specs.Objects.{AreArgumentsOf, AreBoundsOf, WithLifetime, numbered_to, can_be_in};
 ghost use Rattle.built_in_candidates.specs.Noted.{first_of, StayElaborated};
 
-use crate::built_in::SIZED;
 use crate::relate::can_be;
+use declarations::core_traits::SIZED;
 use declarations::declarations::Declarations;
 use std::alloc::Global;
 use term_folds::predicate::TraitRef;

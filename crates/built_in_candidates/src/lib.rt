@@ -10,7 +10,6 @@ pub mod object;
 pub mod outlives;
 pub mod parts;
 pub mod relate;
-mod structural;
 pub mod unsize;
 pub mod unsize_struct;
 pub mod unsize_to_dyn;

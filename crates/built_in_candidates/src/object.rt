@@ -18,16 +18,17 @@ ghost use Rattle.built_in_candidates.specs.Goals.{asked_of, candidate_of};
 ghost use Rattle.built_in_candidates.specs.Noted.{StayElaborated};
 ghost use Rattle.built_in_candidates.specs.Objects.{ObjectIsApplied, AreArgumentsOf, IsByBound, IsOfBound, WithLifetime, bound_in, object_bounds, written_and_elaborated};
 
-use crate::built_in::{SIZED, type_asked};
 use crate::dyn_type::{
     bound_after, bound_from, count_autos, dyn_bounds, is_dyn_compatible, noted_principal,
 };
 use crate::parts::by_rule;
 use crate::relate::{can_be, relate_args};
+use declarations::core_traits::SIZED;
 use declarations::declarations::Declarations;
 use goal_evaluator::{BuiltinImplSource, CandidateSource, CandidateSpec};
 use infer_table::input::CanonicalInput;
 use std::alloc::Global;
+use structural_traits::asked::type_asked;
 use term_folds::predicate::TraitRef;
 use type_terms::Fault;
 use type_terms::interner::Interner;

@@ -20,25 +20,24 @@ ghost use Rattle.declarations.specs.Promised.Elaboration.{Each};
 ghost use Rattle.declarations.specs.Unsizing.{field_trees};
 ghost use Rattle.candidate_model.specs.Candidates.{by_rule, misc, all_equal, unsize_by_struct, unsize_struct_of};
 ghost use Rattle.built_in_candidates.specs.Goals.{asked_of, candidate_of};
-ghost use Rattle.built_in_candidates.specs.Constituents.{AreArguments, StructIsApplied, HaveFields, candidates_of};
+ghost use Rattle.structural_traits.specs.Constituents.{AreArguments, StructIsApplied, HaveFields};
+ghost use Rattle.built_in_candidates.specs.Constituents.{candidates_of};
 ghost use Rattle.built_in_candidates.specs.Unsizing.{replaced, FitsStruct, IsStructType, tail_asked};
 
 use crate::parts::{Coercion, by_rule};
 use crate::relate::relate_args;
-use crate::structural::field_with;
+use declarations::core_traits::UNSIZE;
 use declarations::declarations::Declarations;
 use declarations::items::AdtDef;
 use goal_evaluator::{BuiltinImplSource, CandidateSource, CandidateSpec};
 use infer_table::input::CanonicalInput;
 use infer_table::terms::Equation;
 use std::alloc::Global;
+use structural_traits::fields::field_with;
 use term_folds::predicate::TraitRef;
 use type_terms::interner::Interner;
 use type_terms::kinds::{GenericArgKind, GenericArgs, Ty, TyKind};
 use type_terms::{AdtId, Fault, TraitId};
-
-/// The trait `Unsize` of `core`.
-pub const UNSIZE: u32 = 8;
 
 /// Whether at least one parameter is unsizing.
 fn has_unsizing(flags: &[bool]) -> bool
@@ -146,8 +145,14 @@ fn tail_unsizes(
     ensures is { IfOk result (λ r. reference_in cx.new.entries r
         ≡ tail_asked (trees_at cx.old.entries args.0) (trees_at cx.old.entries target.0) (trees_at cx.old.entries tail.0)) }
 {
-    let source = field_with(alloc, cx, tail, args)?;
-    let goal = field_with(alloc, cx, tail, target)?;
+    let source = match field_with(alloc, cx, tail, args)? {
+        Some(source) => source,
+        None => unreachable!(),
+    };
+    let goal = match field_with(alloc, cx, tail, target)? {
+        Some(goal) => goal,
+        None => unreachable!(),
+    };
     unsizes(alloc, cx, source, goal)
 }
 

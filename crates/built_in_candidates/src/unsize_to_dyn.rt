@@ -19,13 +19,14 @@ ghost use Rattle.built_in_candidates.specs.Constituents.{candidates_of};
 ghost use Rattle.built_in_candidates.specs.Objects.{AreArgumentsOf, WithLifetime};
 ghost use Rattle.built_in_candidates.specs.Unsizing.{traits_asked, to_dyn, TargetIsApplied};
 
-use crate::built_in::{SIZED, type_asked};
 use crate::dyn_type::{dyn_bounds, elaborated_principal, is_dyn_compatible};
 use crate::parts::{Coercion, by_rule};
+use declarations::core_traits::SIZED;
 use declarations::declarations::Declarations;
 use goal_evaluator::{BuiltinImplSource, CandidateSource, CandidateSpec};
 use infer_table::input::CanonicalInput;
 use std::alloc::Global;
+use structural_traits::asked::type_asked;
 use term_folds::predicate::TraitRef;
 use type_terms::interner::Interner;
 use type_terms::kinds::{Bounds, Ty, TyKind};

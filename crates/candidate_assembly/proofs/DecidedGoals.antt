@@ -25,7 +25,8 @@ use Rattle.candidate_model.specs.Asking.{GoalOverKinds, goal_over_kinds, self_of
 use Rattle.candidate_model.specs.Candidates.{Candidate, by_impls, by_objects}
 use Rattle.candidate_model.specs.Solver.{SolverPast, is_impl}
 use Rattle.candidate_assembly.proofs.Counted.{shown-next}
-use Rattle.built_in_candidates.specs.Constituents.{StructIsApplied, CanBeConsidered}
+use Rattle.structural_traits.specs.Constituents.{StructIsApplied}
+use Rattle.built_in_candidates.specs.Constituents.{CanBeConsidered}
 use Rattle.candidate_assembly.specs.Counted.{ForEachPast}
 use Rattle.candidate_assembly.specs.Fitting.{GoalFits, solving_of}
 use Rattle.built_in_candidates.specs.Goals.{asked_of}

@@ -20,7 +20,7 @@ use Rattle.candidate_model.specs.DeclaredWell.{is_declared_well}
 use Rattle.candidate_model.specs.Lifetimes.{gives_lifetimes, given_by, form_gives_lifetimes}
 use Rattle.candidate_model.proofs.DeclaredWell.{tests-tell}
 use Rattle.built_in_candidates.specs.Goals.{asked_of}
-use Rattle.built_in_candidates.specs.Constituents.{HaveFields}
+use Rattle.structural_traits.specs.Constituents.{HaveFields}
 use Rattle.candidate_assembly.specs.Fitting.{reference_fits, fits_declared, solving_of, GoalFits}
 use Rattle.candidate_assembly.specs.Sections.{decided}
 use Rattle.candidate_assembly.specs.Solving.{meaning_for}

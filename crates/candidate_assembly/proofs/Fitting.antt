@@ -34,7 +34,7 @@ use Rattle.declarations.specs.Applied.{sort_of_param, sorts_of, sorts_of_params}
 use Rattle.candidate_model.specs.Asking.{next_of, with_plain_head, begins_with_type, is_rigid}
 use Rattle.infer_table.proofs.SolutionLaws.{is_sort-equal}
 use Rattle.infer_table.proofs.EquationFacts.{erase-sort}
-use Rattle.built_in_candidates.specs.Constituents.{AreArguments, StructIsApplied}
+use Rattle.structural_traits.specs.Constituents.{AreArguments, StructIsApplied}
 use Rattle.candidate_assembly.specs.Sections.{autos_of}
 use Rattle.candidate_assembly.specs.Fitting.{same_sorts, are_of_trait, are_of_struct, is_shut, names_unsize, principal_fits, type_fits, reference_fits, GoalFits}
 use Rattle.built_in_candidates.specs.Objects.{AreArgumentsOf, ObjectIsApplied}

@@ -22,7 +22,7 @@ use Rattle.candidate_model.specs.Declared.{is_declared_leaf, are_terms}
 use Rattle.candidate_model.specs.DeclaredWell.{IsDeclaredWell}
 use Rattle.candidate_model.specs.Lifetimes.{lacks_lifetime, are_given, gives_lifetimes}
 use Rattle.candidate_assembly.proofs.Fitting.{second-part}
-use Rattle.built_in_candidates.specs.Constituents.{AreArguments, StructIsApplied, HaveFields}
+use Rattle.structural_traits.specs.Constituents.{AreArguments, StructIsApplied, HaveFields}
 use Rattle.built_in_candidates.specs.Unsizing.{TargetIsApplied}
 use Rattle.term_folds.proofs.TypeBasics.{left-none, right-none}
 use Rattle.type_terms.proofs.BooleanBasics.{none-of}

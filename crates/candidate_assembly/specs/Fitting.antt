@@ -17,7 +17,7 @@ use Rattle.declarations.specs.Items.{Items, reference_in, struct_at, trait_at, w
 use Rattle.declarations.specs.Applied.{sort_of_param, sorts_of, sorts_of_params, IsApplied}
 use Rattle.candidate_model.specs.Asking.{self_of, next_of}
 use Rattle.built_in_candidates.specs.Goals.{asked_of}
-use Rattle.built_in_candidates.specs.Constituents.{StructIsApplied}
+use Rattle.structural_traits.specs.Constituents.{StructIsApplied}
 use Rattle.built_in_candidates.specs.Objects.{ObjectIsApplied}
 use Rattle.built_in_candidates.specs.Unsizing.{CanUnsize}
 use Rattle.candidate_assembly.specs.Sections.{sources_tell}

@@ -9,7 +9,7 @@ use Rattle.declarations.specs.Held.{AreHeld}
 use Rattle.declarations.specs.Items.{Items, written}
 use Rattle.candidate_model.specs.Asking.{goal_over_kinds}
 use Rattle.candidate_model.specs.DeclaredWell.{is_declared_well}
-use Rattle.built_in_candidates.specs.Constituents.{HaveFields}
+use Rattle.structural_traits.specs.Constituents.{HaveFields}
 use Rattle.candidate_assembly.specs.Fitting.{GoalFits, solving_of}
 use Rattle.built_in_candidates.specs.Goals.{asked_of}
 use Rattle.candidate_assembly.specs.Headers.{HaveCandidates}

@@ -23,7 +23,7 @@ ghost use Rattle.declarations.specs.Applied.{sort_of_param, sorts_of};
 ghost use Rattle.declarations.specs.Held.{ReferenceHeld};
 ghost use Rattle.candidate_model.specs.Asking.{goal_over_kinds, are_clauses, begins_with_type, begins_unknown, next_of, with_plain_head};
 ghost use Rattle.candidate_model.specs.DeclaredWell.{is_declared_well};
-ghost use Rattle.built_in_candidates.specs.Constituents.{HaveFields};
+ghost use Rattle.structural_traits.specs.Constituents.{HaveFields};
 ghost use Rattle.built_in_candidates.specs.Goals.{asked_of};
 ghost use Rattle.built_in_candidates.specs.FnPointers.{IsFirst};
 ghost use Rattle.candidate_assembly.specs.Sections.{decided};

@@ -21,7 +21,8 @@ use Rattle.declarations.proofs.Elaborating.{lead-down}
 use Rattle.declarations.proofs.Growth.{reference-kept}
 use Rattle.declarations.proofs.Levels.{LeadDown, strict-closed}
 use Rattle.proof_checker.specs.Steps.{term_of}
-use Rattle.proof_checker.proofs.Impls.{args-made, clauses-fit}
+use Rattle.structural_traits.proofs.FieldRows.{args-made}
+use Rattle.proof_checker.proofs.Impls.{clauses-fit}
 use Rattle.proof_checker.proofs.Later.{term-same}
 
 erased-with : (A : Trees) (b : Reference) → Fits A b.args → erased_reference (with_args A b) ≡ with_args (erase A) (erased_reference b)

@@ -1,5 +1,5 @@
 -- Rules by impls.
-use Rattle.std.proofs.Common.{◌≡◌, ℕ, List, [], ◌∷◌, refl, ap, sym, subst, map, None, true}
+use Rattle.std.proofs.Common.{◌≡◌, List, [], ◌∷◌, refl, ap, subst, map, None, true}
 use Rattle.type_terms.specs.Promised.Trees.{Trees, Fits}
 use Rattle.type_terms.specs.Trees.{outer_binder}
 use Rattle.type_terms.specs.Promised.Worlds.{World, Reference, ImplDecl, with_args, all_with_args}
@@ -8,9 +8,9 @@ use Rattle.type_terms.specs.Promised.Erased.{erased_impl, erased_reference, eras
 use Rattle.type_terms.specs.Promised.Rules.{Rule, by_impl}
 use Rattle.type_terms.specs.Promised.Proofs.{In, Every}
 use Rattle.type_terms.proofs.Applies.{applies-up-to-lifetimes}
-use Rattle.type_terms.specs.Promised.Handles.{Entry, Has, Keeps, trees_at}
+use Rattle.type_terms.specs.Promised.Handles.{Entry, Keeps, trees_at}
 use Rattle.type_terms.specs.Terms.{Lawful, args_lists}
-use Rattle.type_terms.specs.Kept.{trees-is, trees-later}
+use Rattle.type_terms.specs.Kept.{trees-later}
 use Rattle.type_terms.specs.Made.{terms, is_made, is_in_range}
 use Rattle.term_folds.specs.Arguments.{first_misfit}
 use Rattle.term_folds.specs.declared.predicate.TraitRef.{TraitRef}
@@ -19,10 +19,9 @@ use Rattle.declarations.specs.Applied.{references_in, TraitRefsHeld}
 use Rattle.declarations.specs.Promised.Elaboration.{Each}
 use Rattle.proof_checker.specs.Checked.{IsRuleByWay}
 use Rattle.proof_checker.specs.Steps.{terms_of}
-use Rattle.proof_checker.proofs.Fitting.{fits-of, erased-closed}
-
-pub args-made : (es : List Entry) → Lawful es → (i : ℕ) → Has es args_lists i → is_made is_in_range terms (trees_at es i) ≡ true
-args-made es law i h = subst (λ t. is_made is_in_range terms t ≡ true) (sym (trees-is es args_lists i h.0 h.1)) ((law.made i _ h.1).as_terms (λ e. cc))
+use Rattle.structural_traits.proofs.FieldRows.{args-made}
+use Rattle.structural_traits.proofs.Fitting.{fits-of}
+use Rattle.proof_checker.proofs.Fitting.{erased-closed}
 
 pub clauses-fit : (es : List Entry) → Lawful es → (A : Trees) → is_made is_in_range terms A ≡ true → (rs : List TraitRef) → TraitRefsHeld es rs
     → Each (λ (b : TraitRef). first_misfit A (trees_at es b.args.0) ≡ None) rs → Every (λ (k : Reference). Fits A k.args) (references_in es rs)

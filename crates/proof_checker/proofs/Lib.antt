@@ -1,6 +1,5 @@
 pub mod Results
 pub mod Statics
-pub mod Misfits
 pub mod Ways
 pub mod Fitting
 pub mod Impls
@@ -11,4 +10,3 @@ pub mod Ends
 pub mod Above
 pub mod Moved
 pub mod TypeRows
-pub mod PartRows

@@ -1,10 +1,15 @@
 -- References at places.
-use Rattle.std.proofs.Common.{◌≡◌, ◌<◌, ℕ, zero, suc, List, [], ◌∷◌, ◌++◌, length, take, ap, sym, ◌∙◌, subst, Some, arith, get_or}
+use Rattle.std.proofs.Common.{◌≡◌, ◌==◌, ◌<◌, ℕ, zero, suc, true, List, [], ◌∷◌, ◌++◌, length, take, refl, ap, sym, ◌∙◌, subst, Some, arith, get_or}
+use Rattle.std.proofs.lemmas.Bool.Decides.{nat_tests}
 use Rattle.std.specs.Prelude.{IfSome}
 use Rattle.std.specs.List.{slice_get}
 use Rattle.type_terms.specs.Promised.Worlds.{Reference}
 use Rattle.declarations.specs.Promised.Elaboration.{Each}
 use Rattle.proof_checker.specs.Steps.{as_list, at_places}
+
+pub empty-of : {A : Type 0} (xs : List A) → (length xs == 0) ≡ true → xs ≡ []
+empty-of [] h = refl
+empty-of (x ∷ xs) h = grind (arith, nat_tests)
 
 pub each-at : {A : Type 0} (P : A → Type 0) (xs : List A) (k : ℕ) (x : A) → Each P xs → slice_get xs k ≡ Some x → P x
 each-at P [] k x h e = absurd cc

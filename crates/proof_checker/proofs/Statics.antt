@@ -11,7 +11,7 @@ use Rattle.type_terms.specs.Promised.Handles.{Entry, trees_at}
 use Rattle.type_terms.specs.Pieces.{one_piece, each_piece}
 use Rattle.term_folds.specs.declared.predicate.TraitRef.{TraitRef}
 use Rattle.declarations.specs.Items.{reference_in}
-use Rattle.proof_checker.proofs.Misfits.{one-reference}
+use Rattle.structural_traits.proofs.Misfits.{one-reference}
 
 label-erased : (d : ℕ) (l : Label) → erase_label (region_replaced (λ _. static) d l) ≡ erase_label l
 label-erased d (param of_lifetime i) = refl

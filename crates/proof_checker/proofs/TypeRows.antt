@@ -1,75 +1,16 @@
 -- Built-in rows of types without lifetimes.
-use Rattle.std.proofs.Common.{◌≡◌, ℕ, List, [], ◌∷◌, ◌++◌, refl, sym, ap, subst, ◌∙◌, true, ◌||◌, ◌==◌, if◌then◌else◌, length, arith}
-use Rattle.std.proofs.lemmas.Bool.Decides.{nat_tests}
-use Rattle.std.specs.List.{flat_map}
-use Rattle.type_terms.specs.Promised.Label.{of_type}
-use Rattle.type_terms.specs.Promised.Trees.{Trees, none, tree, ◌+++◌, IsA, erase, erase_label}
-use Rattle.type_terms.specs.Promised.Worlds.{World, Reference}
+use Rattle.std.proofs.Common.{◌≡◌, ℕ, Bool, true, false, cond, ◌||◌, ◌&&◌, ◌==◌, List, [], ◌∷◌, ◌++◌, None, refl, sym, ap, subst, ◌∙◌, if◌then◌else◌, map}
+use Rattle.std.specs.Prelude.{filter}
+use Rattle.std.specs.List.{flat_map, list_any}
+use Rattle.type_terms.specs.Promised.Trees.{Trees, none, tree}
+use Rattle.type_terms.specs.Promised.Worlds.{World, Reference, ImplDecl}
 use Rattle.type_terms.specs.Promised.Proofs.{In}
-use Rattle.type_terms.specs.Promised.Rules.{Rule, Way, BuiltIn, built_in, by_impl, by_clause, by_super, asked, each_asked, last_asked, sized, copy, clone, tuple_trait, fn_ptr_trait, is_fn_trait, unsize, is_auto, sized_rules, copy_rules, tuple_rules, fn_ptr_rules, call_rules, plain_rules, auto_rules, auto_rules_plain, unsize_rules, object_rules, built_in_rules, clause_rules, impl_rules}
-use Rattle.type_terms.specs.Kept.{trees-is}
-use Rattle.type_terms.specs.Kinds.{TysHeld, tys_trees}
-use Rattle.type_terms.specs.Promised.Handles.{Entry, Has, Keeps, types, trees_at}
-use Rattle.type_terms.specs.Terms.{Lawful}
-use Rattle.type_terms.specs.declared.kinds.Ty.{Ty}
+use Rattle.type_terms.specs.Promised.Rules.{Rule, Way, BuiltIn, built_in, by_impl, by_clause, by_super, asked, same_head, sized, copy, clone, tuple_trait, fn_ptr_trait, is_fn_trait, unsize, is_auto, sized_rules, copy_rules, tuple_rules, fn_ptr_rules, call_rules, plain_rules, auto_rules, auto_rules_plain, unsize_rules, object_rules, built_in_rules, clause_rules, impl_rules}
 use Rattle.type_terms.proofs.Members.{here, in-left, in-right}
-use Rattle.type_terms.proofs.TreeLaws.{append-none}
-use Rattle.term_folds.specs.declared.predicate.TraitRef.{TraitRef}
-use Rattle.declarations.specs.Applied.{TraitRefsHeld}
+use Rattle.declarations.specs.Relevant.{next_above, relevant_impls}
+use Rattle.structural_traits.specs.Constituents.{IsBuiltInWay, IsOneRow}
 use Rattle.proof_checker.specs.Checked.{IsBuiltInRule}
-use Rattle.proof_checker.specs.Steps.{term_of, terms_of}
-use Rattle.proof_checker.proofs.Later.{term-same}
-use Rattle.proof_checker.specs.Rows.{each_asked_of, IsBuiltInWay, IsOneRow, HasOwnRule, HasRow, last_type}
-use Rattle.type_terms.proofs.TermBasics.{erase-append, more, skipped}
-
--- ---- types in a row
-pub empty-of : {A : Type 0} (xs : List A) → (length xs == 0) ≡ true → xs ≡ []
-empty-of [] h = refl
-empty-of (x ∷ xs) h = grind (arith, nat_tests)
-
-pub type-is : (es : List Entry) → Lawful es → (i : ℕ) → Has es types i → IsA of_type (trees_at es i)
-type-is es law i h = subst (IsA of_type) (sym (trees-is es types i h.0 h.1)) ((law.sorted i _ h.1).as_type refl)
-
-one-asked : (t : ℕ) (x y : Trees) → IsA of_type x → each_asked t (erase x +++ y) ≡ asked t (erase x) ∷ each_asked t y
-one-asked t none y h = absurd h
-one-asked t (tree l c o) y h = subst (λ z. each_asked t (tree (erase_label l) (erase c) (erase z) +++ y) ≡ asked t (tree (erase_label l) (erase c) (erase z)) ∷ each_asked t y) (sym h.1) refl
-
-pub tys-asked : (es : List Entry) → Lawful es → (t : ℕ) (ts : List Ty) → TysHeld es ts → each_asked t (erase (tys_trees es ts)) ≡ each_asked_of es t ts
-tys-asked es law t [] h = refl
-tys-asked es law t (x ∷ ts) h =
-    ap (each_asked t) (erase-append (trees_at es x.0) (tys_trees es ts))
-    ∙ one-asked t (trees_at es x.0) (erase (tys_trees es ts)) (type-is es law x.0 h.0)
-    ∙ ap (λ l. asked t (erase (trees_at es x.0)) ∷ l) (tys-asked es law t ts h.1)
-
-pub held-last : (es : List Entry) (ts : List Ty) → TysHeld es ts → TysHeld es (last_type ts)
-held-last es [] h = tt
-held-last es (x ∷ []) h = (h.0, tt)
-held-last es (x ∷ y ∷ ts) h = held-last es (y ∷ ts) h.1
-
-one-last : (t : ℕ) (x : Trees) → IsA of_type x → last_asked t (erase x) ≡ asked t (erase x) ∷ []
-one-last t none h = absurd h
-one-last t (tree l c o) h = subst (λ z. last_asked t (tree (erase_label l) (erase c) (erase z)) ≡ asked t (tree (erase_label l) (erase c) (erase z)) ∷ []) (sym h.1) refl
-
-pub last-is : (ts : List Ty) (x : Ty) → last_type (ts ++ x ∷ []) ≡ x ∷ []
-last-is [] x = refl
-last-is (t ∷ []) x = refl
-last-is (t ∷ u ∷ ts) x = last-is (u ∷ ts) x
-
-pub tys-last : (es : List Entry) → Lawful es → (t : ℕ) (ts : List Ty) → TysHeld es ts → last_asked t (erase (tys_trees es ts)) ≡ each_asked_of es t (last_type ts)
-tys-last es law t [] h = refl
-tys-last es law t (x ∷ []) h = ap (λ z. last_asked t (erase z)) (append-none (trees_at es x.0)) ∙ one-last t (trees_at es x.0) (type-is es law x.0 h.0)
-tys-last es law t (x ∷ y ∷ ts) h = by (last_type (y ∷ ts)) (tys-last es law t (y ∷ ts) h.1) (there y ts)
-  where
-    there : (z : Ty) (zs : List Ty) → (w : Ty) × (last_type (z ∷ zs) ≡ w ∷ [])
-    there z [] = (z, refl)
-    there z (u ∷ zs) = there u zs
-
-    by : (l : List Ty) → last_asked t (erase (tys_trees es (y ∷ ts))) ≡ each_asked_of es t (last_type (y ∷ ts)) → (w : Ty) × (last_type (y ∷ ts) ≡ w ∷ [])
-        → last_asked t (erase (tys_trees es (x ∷ y ∷ ts))) ≡ each_asked_of es t (last_type (y ∷ ts))
-    by l e w =
-        let one : each_asked_of es t (last_type (y ∷ ts)) ≡ asked t (erase (trees_at es w.0.0)) ∷ [] = ap (each_asked_of es t) w.1 in
-        ap (last_asked t) (erase-append (trees_at es x.0) (tys_trees es (y ∷ ts)))
-        ∙ skipped t (erase (trees_at es x.0)) (erase (tys_trees es (y ∷ ts))) (asked t (erase (trees_at es w.0.0))) (e ∙ one) ∙ sym one
+use Rattle.proof_checker.specs.Rows.{HasOwnRule, HasRow}
 
 -- ---- rows
 abbrev rule_of : Way → List Reference → Rule
@@ -169,9 +110,18 @@ built-in-rule V E t s ps u =
           (in-left (rule_of (built_in u.0) ps) (built_in_rules V r) (clause_rules V r 0 E) u.1),
     )
 
--- ---- references while the interner grows
-pub one-more-term : (es fs : List Entry) → Keeps es fs → (rs : List TraitRef) (r : TraitRef) (x : Reference) (ys : List Reference) → TraitRefsHeld es rs → term_of fs r ≡ x
-    → terms_of fs (rs ++ r ∷ []) ++ ys ≡ terms_of es rs ++ (x ∷ ys)
-one-more-term es fs k [] r x ys h e = ap (λ z. z ∷ ys) e
-one-more-term es fs k (s ∷ rs) r x ys h e =
-    more (term_of fs s) (term_of es s) (terms_of fs (rs ++ r ∷ []) ++ ys) (terms_of es rs ++ (x ∷ ys)) (term-same es fs k s h.0) (one-more-term es fs k rs r x ys h.1 e)
+-- ---- where no impl is written for the type
+abbrev names : List ImplDecl → List ℕ
+names is = map (λ (i : ImplDecl). i.name) is
+
+none-is : (p : ImplDecl → Bool) (is : List ImplDecl) → None ≡ next_above None (names (filter p is)) → list_any p is ≡ false
+none-is p [] h = refl
+none-is p (i ∷ is) h = by (p i) h (none-is p is)
+  where
+    by : (b : Bool) → None ≡ next_above None (names (cond b (i ∷ filter p is) (filter p is))) → (None ≡ next_above None (names (filter p is)) → list_any p is ≡ false) → (b || list_any p is) ≡ false
+    by true h rest = absurd cc
+    by false h rest = rest h
+
+pub own-rule : (V : World) (t : ℕ) (s : Trees) → None ≡ next_above None (names (relevant_impls V t s)) → auto_rules V t s ≡ auto_rules_plain V t s
+own-rule V t none h = refl
+own-rule V t (tree l c o) h = ap (λ b. if b then [] else auto_rules_plain V t (tree l c o)) (none-is (λ i. (i.header.trait == t) && same_head l i.header.args) V.impls h)

@@ -17,15 +17,13 @@ use crate::rows::by_built_in;
 use crate::rules::{by_clause, by_impl};
 use crate::steps::{Step, Way};
 use crate::supertraits::by_supertrait;
+use declarations::core_traits::SIZED;
 use declarations::declarations::Declarations;
 use declarations::laws::declarations_are_kept;
 use std::alloc::Global;
 use term_folds::predicate::TraitRef;
 use type_terms::interner::Interner;
 use type_terms::{Fault, TraitId};
-
-/// The number of `Sized`.
-const SIZED: u32 = 0;
 
 /// Whether a proof of the trait may be cyclic (`trait_is_coinductive`).
 fn is_coinductive(declarations: &Declarations, id: TraitId) -> bool

@@ -2,10 +2,8 @@
 #![tactic(auto)]
 
 pub mod checker;
-mod fields;
 mod lifetimes;
 pub mod links;
-mod parts;
 pub mod rows;
 pub mod rules;
 pub mod steps;

@@ -8,10 +8,11 @@ use Rattle.declarations.specs.Relevant.{next_above}
 use Rattle.candidate_model.specs.Asking.{with_plain_head}
 use Rattle.candidate_model.specs.Candidates.{as_written, misc}
 use Rattle.built_in_candidates.specs.Goals.{asked_of}
-use Rattle.built_in_candidates.specs.Constituents.{AreConstituents}
+use Rattle.structural_traits.specs.Constituents.{AreConstituents, FitsFields}
 use Rattle.built_in_candidates.proofs.Asking.{asked-later}
 use Rattle.built_in_candidates.proofs.Relevant.{relevant-names}
-use Rattle.built_in_candidates.proofs.Autos.{auto-first, switched-off, switched-on}
+use Rattle.built_in_candidates.proofs.Autos.{switched-off, switched-on}
+use Rattle.built_in_candidates.proofs.Heads.{applied-first, auto-first}
 use Rattle.built_in_candidates.proofs.built_in.consider_auto_trait_candidate.Goals as goal
 use Rattle.type_terms.proofs.TypeBasics.{if-ok}
 
@@ -48,8 +49,9 @@ returns-in_ok-tys-in-None-clause-is c =
     let first = trees-is old types c.self_ty-self_ty.result.0 _ c.self_ty-self_ty.ensures.is in
     let named = relevant-names old d a S starts first c.requires.impls in
     let plain = auto_rules_plain V t (with_plain_head T) in
+    let fits : FitsFields old d S = record { fields = c.requires.considered.fields; applied = applied-first d T S starts first c.requires.considered.applied } in
     let on = switched-on V t T starts (c.in-None.ensures.is ∙ ap (next_above None) named) in
-    let are = subst (λ us. AreConstituents (λ v. v.items) mid t us c.in_ok-tys-in-None.tys) (auto-first V t T S starts first) (c.in_ok-tys-in-None.ensures.are t) in
+    let are = subst (λ us. AreConstituents (λ v. v.items) mid t us c.in_ok-tys-in-None.tys) (auto-first T S starts first V t) (c.in_ok-tys-in-None.ensures.are (λ _. fits) t) in
     if-ok _ _ c.for_constituent_tys.result
     (λ o is.
     is V plain are

@@ -3,7 +3,7 @@ use Rattle.type_terms.specs.Promised.Rules.{copy_rules}
 use Rattle.type_terms.specs.Promised.Handles.{types, trees_at}
 use Rattle.type_terms.specs.Kept.{trees-is}
 use Rattle.candidate_model.specs.Asking.{with_plain_head}
-use Rattle.built_in_candidates.specs.Constituents.{AreConstituents}
+use Rattle.structural_traits.specs.Constituents.{AreConstituents}
 use Rattle.built_in_candidates.proofs.Heads.{copy-first}
 use Rattle.built_in_candidates.proofs.built_in.consider_builtin_copy_clone_candidate.Goals as goal
 use Rattle.type_terms.proofs.TypeBasics.{if-ok}

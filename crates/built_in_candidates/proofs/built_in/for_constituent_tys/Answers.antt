@@ -6,7 +6,7 @@ use Rattle.infer_table.proofs.Numbers.{goal-held-later}
 use Rattle.declarations.specs.Applied.{references_in, TraitRefsHeld}
 use Rattle.candidate_model.specs.Candidates.{by_rule}
 use Rattle.built_in_candidates.specs.Goals.{asked_of}
-use Rattle.built_in_candidates.specs.Constituents.{AreConstituents, types_asked}
+use Rattle.structural_traits.specs.Constituents.{AreConstituents, types_asked}
 use Rattle.built_in_candidates.proofs.Asking.{asked-later, none-written, one-written}
 use Rattle.built_in_candidates.proofs.built_in.for_constituent_tys.Goals as goal
 

@@ -2,14 +2,15 @@ use Rattle.std.proofs.Common.{ap, sym, ◌∙◌, subst}
 use Rattle.type_terms.specs.Promised.Rules.{last_asked, sized}
 use Rattle.type_terms.specs.Terms.{type_lists}
 use Rattle.type_terms.specs.Kept.{trees-is}
-use Rattle.built_in_candidates.specs.Constituents.{types_asked, TypesHeld}
-use Rattle.built_in_candidates.proofs.Trees.{tys-last, held-last}
+use Rattle.type_terms.specs.Kinds.{TysHeld}
+use Rattle.structural_traits.specs.Constituents.{types_asked}
+use Rattle.structural_traits.proofs.Trees.{tys-last, held-last}
 use Rattle.built_in_candidates.proofs.calls.output_is_sized.Goals as goal
 use Rattle.type_terms.proofs.TypeBasics.{if-ok}
 
 pub types_asked-requires : goal.types_asked-requires
 types_asked-requires c =
-    subst (TypesHeld c.args.cx.now.entries) (sym (c.deref.ensures.value ∙ c.in_ok-output.ensures.is)) (held-last c.args.cx.now.entries c.tys.result.now c.tys.ensures.held)
+    subst (TysHeld c.args.cx.now.entries) (sym (c.deref.ensures.value ∙ c.in_ok-output.ensures.is)) (held-last c.args.cx.now.entries c.tys.result.now c.tys.ensures.held)
 
 pub returns-clause-are : goal.returns-clause-are
 returns-clause-are c =

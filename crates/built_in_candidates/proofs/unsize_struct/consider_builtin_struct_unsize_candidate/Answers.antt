@@ -2,7 +2,7 @@ use Rattle.std.proofs.Common.{sym, ◌∙◌, subst}
 use Rattle.type_terms.specs.Promised.Handles.{trees_at}
 use Rattle.declarations.specs.Items.{written}
 use Rattle.infer_table.proofs.BindFacts.{type-is}
-use Rattle.built_in_candidates.specs.Constituents.{AreArguments, StructIsApplied}
+use Rattle.structural_traits.specs.Constituents.{AreArguments, StructIsApplied}
 use Rattle.built_in_candidates.specs.Goals.{asked_of}
 use Rattle.built_in_candidates.proofs.StructRows.{two-structs, other-structs, first-no-struct, second-no-struct}
 use Rattle.built_in_candidates.proofs.unsize_struct.consider_builtin_struct_unsize_candidate.Goals as goal

@@ -4,7 +4,7 @@ use Rattle.type_terms.specs.Promised.Handles.{trees_at}
 use Rattle.declarations.specs.Items.{struct_in, written}
 use Rattle.candidate_model.specs.Candidates.{unsize_by_struct}
 use Rattle.built_in_candidates.specs.Goals.{asked_of}
-use Rattle.built_in_candidates.proofs.Structs.{fields-fit}
+use Rattle.structural_traits.proofs.Structs.{fields-fit}
 use Rattle.built_in_candidates.proofs.StructRows.{fits-struct, one-struct}
 use Rattle.built_in_candidates.proofs.unsize_struct.unsize_adt.Goals as goal
 use Rattle.type_terms.proofs.TypeBasics.{if-ok}

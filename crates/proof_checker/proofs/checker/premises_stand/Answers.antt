@@ -9,10 +9,9 @@ use Rattle.declarations.proofs.Growth.{reference-same, reference-kept}
 use Rattle.proof_checker.specs.declared.steps.Step.{Step}
 use Rattle.proof_checker.specs.Steps.{term_of, terms_of, steps_say, at_places, StepHeld}
 use Rattle.proof_checker.proofs.Ways.{get-at, get-map}
-use Rattle.proof_checker.proofs.Places.{each-at, places-more, take-get, shorter}
+use Rattle.proof_checker.proofs.Places.{empty-of, each-at, places-more, take-get, shorter}
 use Rattle.proof_checker.proofs.Results.{never}
 use Rattle.declarations.specs.Held.{ReferenceHeld}
-use Rattle.proof_checker.proofs.TypeRows.{empty-of}
 use Rattle.proof_checker.proofs.checker.premises_stand.Goals as goal
 use Rattle.type_terms.proofs.ListBasics.{empty as none-left}
 

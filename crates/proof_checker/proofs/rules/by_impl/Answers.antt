@@ -17,8 +17,9 @@ use Rattle.declarations.specs.Applied.{references_in, TraitRefsHeld}
 use Rattle.declarations.proofs.Growth.{reference-same, reference-kept, each-kept}
 use Rattle.declarations.proofs.Bounded.{all-same}
 use Rattle.proof_checker.proofs.Results.{both-some, not-ok}
-use Rattle.proof_checker.proofs.Fitting.{fits-of}
-use Rattle.proof_checker.proofs.Impls.{args-made, clauses-fit, fits-back, terms-map, by-the-impl}
+use Rattle.structural_traits.proofs.FieldRows.{args-made}
+use Rattle.structural_traits.proofs.Fitting.{fits-of}
+use Rattle.proof_checker.proofs.Impls.{clauses-fit, fits-back, terms-map, by-the-impl}
 use Rattle.type_terms.proofs.Grown.{grew-none, grew-on}
 use Rattle.type_terms.specs.Trees.{outer_binder}
 use Rattle.proof_checker.proofs.rules.by_impl.Goals as goal

@@ -8,7 +8,7 @@ use Rattle.term_folds.specs.declared.instantiate.InstantiateError.TheVariants as
 use Rattle.term_folds.specs.declared.predicate.TraitRef.{TraitRef}
 use Rattle.declarations.specs.Held.{ReferenceHeld}
 use Rattle.declarations.specs.Items.{reference_in}
-use Rattle.proof_checker.proofs.Misfits.{no-misfit, one-reference}
+use Rattle.structural_traits.proofs.Misfits.{no-misfit, one-reference}
 use Rattle.proof_checker.proofs.rules.with_arguments.Goals as goal
 
 pub returns-in-Ok-clause-fits : goal.returns-in-Ok-clause-fits

@@ -1,7 +1,0 @@
-use Rattle.std.proofs.Common.{sym, ap, ◌∙◌}
-use Rattle.built_in_candidates.specs.Constituents.{last_of}
-use Rattle.built_in_candidates.proofs.Trees.{last-is}
-use Rattle.built_in_candidates.proofs.structural.last_alone.Goals as goal
-
-pub returns-in_ok-vec-in-Some-clause-is : goal.returns-in_ok-vec-in-Some-clause-is
-returns-in_ok-vec-in-Some-clause-is c = c.in_ok-vec-in-Some.ensures.items ∙ sym (ap last_of c.in-Some.ensures.cases.0 ∙ last-is c.in-Some.field-0-1.now c.in-Some.last.now)
