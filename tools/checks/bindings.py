@@ -3,7 +3,7 @@
 The tests are those of bindings/rust, by `cargo test --offline`, of bindings/python and of bindings/c. If there is no cargo, those of Rust
 are left out. They run the queries of examples/, and of the texts `*.txt` in the folder that CELTISDARTS_TEXTS names, if it names one. The
 programs that docs/LIBRARY.md shows are those of bindings/, and print what it says. The function in Rattle is that of
-example_checker, which is proved.
+example_checker, which is proved. The clients among the examples print what their heads say, and two agree with rustc (clients.py).
 
 Each binding is installed too, without a network, and the program of the page runs over what was installed: the packages of Rust, which
 `cargo package` verifies, in a project of their own; the wheel in an environment of its own; header, archive and shared object below a prefix.
@@ -20,6 +20,7 @@ import tempfile
 from pathlib import Path
 from typing import Mapping, Sequence
 
+from .clients import try_python_clients, try_rust_clients
 from .common import TOP, Ended, Missing, Tally, Word, difference, is_released, library, run
 
 PAGE = TOP / "docs/LIBRARY.md"
@@ -92,6 +93,8 @@ def try_rust(tally: Tally, room: Path, env: Mapping[str, str]) -> None:
     ended = run(["cargo", "test", "--no-fail-fast", *words], env=env)
     tests(tally, "bindings/rust", ended, RUST.findall(ended.output))
     try_shown(tally, "rust", crate / "examples/ask.rs", ["cargo", "run", "--quiet", "--example", "ask", *words], env)
+    if succeeds(tally, "bindings/rust: its examples", ["cargo", "build", "--quiet", "--examples", *words], env):
+        try_rust_clients(tally, room, room / "target/debug/examples")
     try_packages(tally, room, {name: it for name, it in env.items() if name != "CELTISDARTS_LIB_DIR"})
 
 
@@ -123,6 +126,7 @@ def try_python(tally: Tally, room: Path, env: Mapping[str, str]) -> None:
     tests(tally, "bindings/python", ended, PYTHON.findall(ended.errors))
     example = module.parent / "example.py"
     try_shown(tally, "python", example, [sys.executable, "-B", example], env)
+    try_python_clients(tally, env)
     try_wheel(tally, room, {name: it for name, it in env.items() if name not in ("CELTISDARTS_LIB", "PYTHONPATH")})
 
 
