@@ -20,6 +20,7 @@ use Rattle.search_graph.specs.SearchState.{SearchState}
 use Rattle.goal_evaluator.specs.Content.{Fact}
 use Rattle.goal_evaluator.specs.Proof as Lists
 use Rattle.solver_graph.specs.Contexts.{entries_of}
+use Rattle.solver_graph.specs.LeftTables.{IsLeftByAnswers}
 use Rattle.solver_graph.specs.Roots.{fact_under}
 use Rattle.solver_graph.specs.Settling.{IsProvedBy, GoalIsRefused, IsUnsettled}
 use Rattle.solver_graph.specs.declared.context.SolverCx.{SolverCx}
@@ -70,7 +71,7 @@ module _ {Handler : Type 0} (handler : HandlerMeaning Handler) (ks : List Sort) 
 
   -- ---- what is proved
   module _ (held : GoalHeld (entries_of c) g) (d : SolverCx Handler) (u : Table) (ready : Ready (entries_of d) u) (law : Lawful (entries_of d)) (k : Keeps (entries_of c) (entries_of d))
-      (proved : IsProvedBy handler w c t d u g) (us : List GenericArgKind) (us_held : ArgsHeld (entries_of c) us) where
+      (proved : IsProvedBy handler w c t d u g) (left : IsLeftByAnswers handler c t PostAnalysis g d u) (us : List GenericArgKind) (us_held : ArgsHeld (entries_of c) us) where
     abbrev bs : List Binding
     bs = content (entries_of d) u.values
 
@@ -106,6 +107,7 @@ module _ {Handler : Type 0} (handler : HandlerMeaning Handler) (ks : List Sort) 
       unbound = bound-there false h.1;
       proved = has-proof;
       solved = proved clean-table;
+      left = subst (λ (x : Table). IsLeftByAnswers handler c x PostAnalysis g d u) table_is left;
     }
     read-goal depth fs Maybe h = inr (inr (entries_of d, u, ready, bound-there true h))
     read-goal depth fs Unproved h = absurd h

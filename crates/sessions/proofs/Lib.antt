@@ -70,6 +70,9 @@ pub mod RightAnswers
 pub mod ProvedQuestions
 mod BareAnswers
 mod SizedAlone
+mod OwnTables
+mod CoveringValues
+mod CoveringAnswers
 mod Unsolved
 mod OtherAnswers
 pub mod OpaqueTerms

@@ -237,7 +237,7 @@ other-answers-are-right d text n q is s of depth es = (
     λ decided proof. unproved d text n q is s of depth decided.0 decided.1 h proof,
     tt,
     tt,
-    λ bare alone sol. unsolved d text n q is s of depth h bare alone sol,
+    λ bare alone sol. unsolved d text n q is s of alone bare depth h sol,
     λ closed short proof. unproved-exactly d text n q is s of depth closed short h proof,
   ),
   λ h. (λ decided. never-maybe d text n q is s of depth decided.0 decided.1 es h, tt, tt, tt, λ closed short. maybe-exactly d text n q is s of depth closed short es h),

@@ -53,9 +53,8 @@ use Rattle.sessions.specs.Clauses.{AddSupertraits}
 use Rattle.sessions.specs.Fitting.{sorts_in}
 use Rattle.sessions.specs.Goals.{goal_of, is_fixed, are_fixed}
 use Rattle.sessions.specs.Proved.{fact_with_values}
-use Rattle.sessions.specs.ProvedQuestions.{YesIsRight}
 use Rattle.sessions.specs.Promised.Given.{answer_in}
-use Rattle.sessions.specs.Promised.Promises.{AreForced, IsProved, view_in}
+use Rattle.sessions.specs.Promised.Promises.{AreForced, CoversSolutions, IsProved, view_in}
 use Rattle.sessions.specs.Sessions.{IsSolvingOf}
 use Rattle.sessions.specs.Promised.OwnValues.{is_unknown, are_own, SpeaksOfOwn}
 use Rattle.sessions.specs.Foreign.{is_unknown_term}
@@ -213,11 +212,11 @@ clauses-erased [] = refl
 clauses-erased (r ∷ rs) = ap (λ z. reference r.trait z ∷ map erased_reference (unbound_references rs)) (plain-erased r.args) ∙ ap (λ zs. erased_reference r ∷ zs) (clauses-erased rs)
 
 -- ---- values
-over : {A B C : Type 0} (f : A → B) (g : B → C) (xs : List A) → map g (map f xs) ≡ map (λ x. g (f x)) xs
+pub over : {A B C : Type 0} (f : A → B) (g : B → C) (xs : List A) → map g (map f xs) ≡ map (λ x. g (f x)) xs
 over f g [] = refl
 over f g (x ∷ xs) = ap (λ zs. g (f x) ∷ zs) (over f g xs)
 
-own-are : (t c : ℕ) (vs : List Variable) → own_from t c vs ≡ unknowns_from t c (map (λ v. v.kind) vs)
+pub own-are : (t c : ℕ) (vs : List Variable) → own_from t c vs ≡ unknowns_from t c (map (λ v. v.kind) vs)
 own-are t c [] = refl
 own-are t c (v ∷ vs) = by v.kind (λ m k. own-are m k vs)
   where
@@ -401,7 +400,7 @@ module _ (ks : List Sort) (E : List Reference) (r : Reference) (own : is_made (i
   pub good : AllGood (is_own ks) r.args
   good = all-good (is_own ks) refl (λ m t. refl) (λ t. refl) terms r.args own
 
-  proper-args : IsProper r.args
+  pub proper-args : IsProper r.args
   proper-args = proper r.args (made-leaves (is_own ks) terms r.args own)
 
   -- its arguments with a table's values, without lifetimes
@@ -463,8 +462,10 @@ module _ (d : Declarations) (text : IsOfText d) (n : ℕ) (q : Question) (is : I
   as-asked : (P : List Reference → Reference → Type 0) → P (map erased_reference E) (erased_reference asked) → P (map erased_reference q.clauses) (erased_reference q.asked)
   as-asked P h = subst (λ F. P F (erased_reference q.asked)) (clauses-erased q.clauses) (subst (P (map erased_reference E)) (ap (reference q.asked.trait) (plain-erased q.asked.args)) h)
 
-  yes : (limit depth : ℕ) (es : List Entry) (values : Vec GenericArgKind) → IsAnsweredBySolver s depth q es (Yes values) → IsProved limit d q (answer_in es (Yes values))
-  yes limit depth es values h =
+  -- such an answer is right, if it covers the solutions
+  pub yes : (limit depth : ℕ) (es : List Entry) (values : Vec GenericArgKind) → IsAnsweredBySolver s depth q es (Yes values)
+      → CoversSolutions U kinds (map erased_reference q.clauses) (erased_reference q.asked) (answer_in es (Yes values)) → IsProved limit d q (answer_in es (Yes values))
+  yes limit depth es values h covers =
       let told = subst (λ (x : Solving). IsAnsweredBySolver x depth q es (Yes values)) of.is h in
       let searched = subst (λ us. IsGoalAnswered (solving_of of.entries of.declarations) depth kinds (goal_of (elaborate W E) asked) us es (Yes values)) (own-are 0 0 q.variables) told.0 in
       let clean = clean-own kinds asked.args (good kinds E asked own) in (
@@ -475,9 +476,6 @@ module _ (d : Declarations) (text : IsOfText d) (n : ℕ) (q : Question) (is : I
         as-asked (λ F x. AreForced (view_in d q.asker) kinds F x (answer_in es (Yes values)))
             (yes-forced d text q.asker of.entries of.declarations of.seen kinds E asked each clean (proper-args kinds E asked own)
             (asked-with kinds E asked own (elaborate W E)) (asked-closed kinds E asked own (elaborate W E)) depth es values searched),
-        tt,
+        covers,
         tt,
       )
-
-pub yes-is-right : YesIsRight
-yes-is-right d text n q is s of limit depth es values h = yes d text n q is s of limit depth es values h

@@ -1,4 +1,5 @@
--- A question without where-clauses and parameters that is refused outside coherence has no solution by what its crate sees.
+-- Solutions of a question without where-clauses and parameters, by what its crate sees, are looked for outside coherence. If it is refused
+-- there it has none.
 use Rattle.std.proofs.Common.{◌≡◌, ℕ, Bool, true, false, not, ◌||◌, IsTrue, List, [], ◌∷◌, map, refl, sym, ap, ◌∙◌, subst}
 use Rattle.std.specs.List.{slice_get}
 use Rattle.type_terms.specs.Promised.Label.{Label, Sort, of_type, of_const, of_lifetime, param, placeholder, infer, canonical, bound, fn_ptr, principal, static}
@@ -11,17 +12,17 @@ use Rattle.type_terms.specs.Promised.Questions.{FitKinds, of_kind, filled, fille
 use Rattle.type_terms.proofs.Fitting.{child-shut, next-shut}
 use Rattle.type_terms.proofs.Matching.{or-false-left as no-left}
 use Rattle.type_terms.proofs.BooleanBasics.{true-false}
-use Rattle.infer_table.specs.Canonical.{kind_of_leaf}
+use Rattle.infer_table.specs.Canonical.{CanonicalForm, canonical_form, kind_of_leaf}
 use Rattle.infer_table.specs.Content.{variables_of}
 use Rattle.infer_table.specs.Covers.{AreKnown}
 use Rattle.infer_table.specs.Solutions.{Assignment, instance}
 use Rattle.declarations.specs.Promised.Elaboration.{elaborate}
-use Rattle.declarations.specs.Items.{written}
 use Rattle.goal_evaluator.specs.FrameTables.{kinds_known}
 use Rattle.candidate_model.specs.Meaning.{SelfTypesBegin}
-use Rattle.candidate_model.specs.Solver.{has_placeholder, SizedIsBuiltIn}
-use Rattle.candidate_assembly.specs.Solving.{Solving}
+use Rattle.candidate_model.specs.Solver.{has_placeholder, SizedIsBuiltIn, SearchedAlone, IsSolution}
+use Rattle.candidate_assembly.specs.Solving.{Solving, meaning_for}
 use Rattle.candidate_assembly.specs.SolverMeaning.{solver_by_view}
+use Rattle.solver_graph.specs.Roots.{fact_under}
 use Rattle.overlap_check.proofs.Filling.{node}
 use Rattle.text_language.specs.Promised.Declarations.{Declarations, Question}
 use Rattle.view_lowering.specs.Promised.Questions.{variable_kinds, IsQuestion}
@@ -116,14 +117,14 @@ module _ (ks : List Sort) (ts : List Trees) (fit : FitKinds ks ts) (shut : Every
       shut-node ks ts fit shut (erase_label l) (instance S c) (instance S o) (open-so l (first-no l c o b) (λ s i e. cc)) (shut-is c h.1 (child-no l c o b)) (shut-is o h.2 (next-no l c o b))
 
 -- ---- the goal
-abbrev is_place : Label → Bool
+abbrev pub is_place : Label → Bool
 is_place l = is_bound_place (erase_label l)
 
 same-nodes : (t : Trees) → some_node is_place t ≡ some_node is_bound_place (erase t)
 same-nodes none = refl
 same-nodes (tree l c o) = ap (λ b. is_place l || b || some_node is_place o) (same-nodes c) ∙ ap (λ b. is_place l || some_node is_bound_place (erase c) || b) (same-nodes o)
 
-one-fine : (l : Label) (ls : List Label) → is_place l ≡ false → has_placeholder (kinds_known (map kind_of_leaf ls)) ≡ false → has_placeholder (kinds_known (kind_of_leaf l ∷ map kind_of_leaf ls)) ≡ false
+pub one-fine : (l : Label) (ls : List Label) → is_place l ≡ false → has_placeholder (kinds_known (map kind_of_leaf ls)) ≡ false → has_placeholder (kinds_known (kind_of_leaf l ∷ map kind_of_leaf ls)) ≡ false
 one-fine (infer of_type i) ls h e = e
 one-fine (infer of_const i) ls h e = e
 one-fine (infer of_lifetime i) ls h e = e
@@ -136,7 +137,7 @@ one-fine (placeholder of_lifetime i) ls h e = e
 one-fine static ls h e = e
 one-fine l ls h e = e
 
-known-there : (ks : List Sort) (t : Trees) → AreKnown (λ s. count_of s ks) t → AreKnown (variables_of (table_of ks)) t
+pub known-there : (ks : List Sort) (t : Trees) → AreKnown (λ s. count_of s ks) t → AreKnown (variables_of (table_of ks)) t
 known-there ks none h = tt
 known-there ks (tree (infer of_type i) c o) h = (h.0, known-there ks c h.1, known-there ks o h.2)
 known-there ks (tree (infer of_const i) c o) h = (h.0, known-there ks c h.1, known-there ks o h.2)
@@ -147,8 +148,8 @@ no-clauses : (rs : List Reference) → map erased_reference rs ≡ [] → rs ≡
 no-clauses [] e = refl
 no-clauses (r ∷ rs) e = absurd cc
 
-module _ (d : Declarations) (text : IsOfText d) (n : ℕ) (q : Question) (is : IsQuestion d n q) (s : Solving) (of : IsSolvingOf d q.asker s) (depth : ℕ)
-    (refused : IsRefusedGoal solver_by_view s depth (variable_kinds q) (goal_asking s.view q)) (bare : map erased_reference q.clauses ≡ []) (alone : HasNoParameter (erased_reference q.asked)) where
+-- ---- a question without where-clauses and parameters
+module _ (d : Declarations) (text : IsOfText d) (n : ℕ) (q : Question) (is : IsQuestion d n q) (s : Solving) (of : IsSolvingOf d q.asker s) (alone : HasNoParameter (erased_reference q.asked)) where
   abbrev ks : List Sort
   ks = variable_kinds q
 
@@ -158,48 +159,60 @@ module _ (d : Declarations) (text : IsOfText d) (n : ℕ) (q : Question) (is : I
   abbrev cs : List CrateDecl
   cs = (view_in d q.asker).crates
 
-  fine : AllGood (is_own ks) asked.args
+  pub fine : AllGood (is_own ks) asked.args
   fine = good ks (unbound_references q.clauses) asked (own d text n q is s of)
 
   no-place : NoPlace asked.args
   no-place = ap (some_node is_bound_place) (plain-erased q.asked.args) ∙ alone
 
-  -- what is asked, as a goal of its own
-  refused-alone : IsRefusedGoal solver_by_view s depth ks (goal_alone asked)
-  refused-alone = subst (λ (rs : List Reference). IsRefusedGoal solver_by_view s depth ks (goal_of (elaborate s.view (unbound_references rs)) asked)) (no-clauses q.clauses bare) refused
-
   view-is : s.view ≡ plainly_seen_from d q.asker
   view-is = ap (λ (x : Solving). x.view) of.is ∙ of.seen.written
 
-  begin : SelfTypesBegin s.view
+  pub begin : SelfTypesBegin s.view
   begin = subst SelfTypesBegin (sym view-is) (seen-begin text.0 d (text-given d text) q.asker)
 
-  sized : SizedIsBuiltIn s.view
+  pub sized : SizedIsBuiltIn s.view
   sized = subst SizedIsBuiltIn (sym view-is) (sized-alone text.0 d (text-given d text) q.asker)
 
   rules-so : erased_world s.view ≡ rules_seen_from d q.asker
   rules-so = ap (λ (x : Solving). erased_world x.view) of.is ∙ rules-are of.entries of.declarations d q.asker of.seen.written
 
-  there : (r : Reference) → HasProof (view_in d q.asker) [] r → HasProof (record (erased_world s.view) { crates = cs }) [] r
+  abbrev pub IsProvedThere : Reference → Type 0
+  IsProvedThere r = HasProof (record (erased_world s.view) { crates = cs }) [] r
+
+  there : (r : Reference) → HasProof (view_in d q.asker) [] r → IsProvedThere r
   there r p = subst (λ (V : World). HasProof (record V { crates = cs }) [] r) (sym rules-so) p
 
-  pub unsolved : SolutionBy (HasProof (view_in d q.asker) []) ks (erased_reference q.asked) → ⊥
-  unsolved sol =
-      let args-are : instance (given ks sol.values) asked.args ≡ filled ks sol.values (erase q.asked.args)
-      = filled-is ks sol.values sol.fitting sol.closed asked.args fine ∙ ap (filled ks sol.values) (plain-erased q.asked.args) in
-      refused-alone.3 (record { environment = tt; predicate = (clean-own ks asked.args fine, tt) }) tt (known-there ks asked.args (known ks asked.args fine), tt)
-      (record {
-        crates = cs;
-        begin = begin;
-        sized_alone = sized;
-        no_clauses = refl;
-        no_placeholders = no-places is_place one-fine asked (same-nodes asked.args ∙ no-place);
-      })
-      (given ks sol.values) (given-sorted ks sol.values)
-      (record {
-        asks = refl;
-        proper = refl;
-        closed = ap not (shut-is ks sol.values sol.fitting sol.closed asked.args fine no-place);
-        proof = subst (λ (r : Reference). HasProof (record (erased_world s.view) { crates = cs }) [] r) (sym (same-args q.asked.trait _ _ args-are))
-            (there (filled_reference ks sol.values (erased_reference q.asked)) sol.proved);
-      })
+  -- the solver looks for solutions of such a goal
+  abbrev form : Reference → CanonicalForm
+  form r = canonical_form (goal_alone r)
+
+  abbrev pub searched : (r : Reference) → some_node is_place r.args ≡ false → SearchedAlone (meaning_for s (form r)) (form r)
+  searched r h = record { crates = cs; begin = begin; sized_alone = sized; no_clauses = refl; no_placeholders = no-places is_place one-fine r h }
+
+  module _ (sol : SolutionBy (HasProof (view_in d q.asker) []) ks (erased_reference q.asked)) where
+    args-are : instance (given ks sol.values) asked.args ≡ filled ks sol.values (erase q.asked.args)
+    args-are = filled-is ks sol.values sol.fitting sol.closed asked.args fine ∙ ap (filled ks sol.values) (plain-erased q.asked.args)
+
+    pub shut : some_node is_open (instance (given ks sol.values) asked.args) ≡ false
+    shut = shut-is ks sol.values sol.fitting sol.closed asked.args fine no-place
+
+    -- a solution is one for it
+    pub solution : IsSolution IsProvedThere (fact_under (given ks sol.values) (goal_alone asked))
+    solution = record {
+      asks = refl;
+      proper = refl;
+      closed = ap not shut;
+      proof = subst IsProvedThere (sym (same-args q.asked.trait _ _ args-are)) (there (filled_reference ks sol.values (erased_reference q.asked)) sol.proved);
+    }
+
+  module _ (bare : map erased_reference q.clauses ≡ []) where
+    -- what is asked, as a goal of its own
+    pub goal-is : goal_asking s.view q ≡ goal_alone asked
+    goal-is = ap (λ (rs : List Reference). goal_of (elaborate s.view (unbound_references rs)) asked) (no-clauses q.clauses bare)
+
+    pub unsolved : (depth : ℕ) → IsRefusedGoal solver_by_view s depth ks (goal_asking s.view q) → SolutionBy (HasProof (view_in d q.asker) []) ks (erased_reference q.asked) → ⊥
+    unsolved depth refused sol =
+        (subst (IsRefusedGoal solver_by_view s depth ks) goal-is refused).3
+        (record { environment = tt; predicate = (clean-own ks asked.args fine, tt) }) tt (known-there ks asked.args (known ks asked.args fine), tt)
+        (searched asked (same-nodes asked.args ∙ no-place)) (given ks sol.values) (given-sorted ks sol.values) (solution sol)

@@ -25,6 +25,7 @@ use Rattle.goal_evaluator.specs.Tables.{frame_tables}
 use Rattle.goal_frames.specs.Searches.{is_yes_answer}
 use Rattle.solver_graph.specs.Contexts.{Asked, Advances, IsReady as IsReadyContext, entries_of}
 use Rattle.solver_graph.specs.Evaluations.{IsFoundBySearch}
+use Rattle.solver_graph.specs.LeftTables.{AnswersLeave}
 use Rattle.solver_graph.specs.Roots.{left_by, fact_under}
 use Rattle.solver_graph.specs.Searching.{solver_meaning}
 use Rattle.solver_graph.specs.declared.context.SolverCx.{SolverCx}
@@ -76,8 +77,8 @@ goal_asking V q = goal_of (elaborate V (unbound_references q.clauses)) (unbound_
 -- ---- answers
 module _ {Handler : Type 0} (handler : HandlerMeaning Handler) where
   -- Some table gives the variables these values. With them nothing bound occurs in the goal's predicate, and the goal has a proof, as has
-  -- its instance by each solution of the table.
-  pub record HasAnswerValues (w : handler.goals.World) (g : GoalTrees) (us values : List Trees) : Type 0 where
+  -- its instance by each solution of the table. Answers to the goal leave this table of one with variables of these kinds.
+  pub record HasAnswerValues (w : handler.goals.World) (ks : List Sort) (g : GoalTrees) (us values : List Trees) : Type 0 where
     pub entries : List Entry
     pub table : Table
     pub ready : Ready entries table
@@ -85,6 +86,7 @@ module _ {Handler : Type 0} (handler : HandlerMeaning Handler) where
     pub unbound : some_node is_bound_term (resolved (content entries table.values) g.predicate) ≡ false
     pub proved : IsWithoutCanonical g → Lists.FactHasProof Fact (handler.goals.Rule w) (handler.goals.coinductive w) (fact_with_values (content entries table.values) g)
     pub solved : IsWithoutCanonical g → (s : Assignment) → Solves s (content entries table.values) → Lists.FactHasProof Fact (handler.goals.Rule w) (handler.goals.coinductive w) (fact_under s g)
+    pub left : AnswersLeave handler PostAnalysis w g (table_trees [] (table_of ks)) (table_trees entries table)
 
   -- Whatever its variables stand for, the goal has no proof in any of the handler's worlds, if its variables are of these kinds.
   abbrev pub HasNoProofOver : handler.goals.World → List Sort → GoalTrees → Type 0
@@ -110,7 +112,7 @@ module _ {Handler : Type 0} (handler : HandlerMeaning Handler) where
 
   -- What an answer says of a goal over the table with variables of these kinds.
   abbrev pub IsAnswered : handler.goals.World → ℕ → List Sort → GoalTrees → List Trees → List Entry → ProveAnswer → Type 0
-  IsAnswered w depth ks g us es (Yes values) = HasAnswerValues w g us (map (arg_trees es) values.items)
+  IsAnswered w depth ks g us es (Yes values) = HasAnswerValues w ks g us (map (arg_trees es) values.items)
   IsAnswered w depth ks g us es Unproved = IsRefusedGoal w depth ks g
   IsAnswered w depth ks g us es Maybe = IsUnsettledGoal w depth g
 

@@ -8,7 +8,7 @@ use Rattle.type_terms.specs.Promised.Rules.{rules, clause_rules}
 use Rattle.type_terms.specs.Promised.Trees.{Trees, some_node}
 use Rattle.type_terms.specs.Promised.Worlds.{World, Reference, view_of}
 use Rattle.text_language.specs.Promised.Declarations.{Declarations, Question, world_of}
-use Rattle.type_terms.specs.Promised.Questions.{ProveAnswer, yes, unproved, maybe, HoldUnknownsAlone, SolutionBy, IsProveAnswer, RefuteAnswer, IsRefuteAnswer}
+use Rattle.type_terms.specs.Promised.Questions.{FitKinds, filled, ProveAnswer, yes, unproved, maybe, HoldUnknownsAlone, SolutionBy, IsProveAnswer, RefuteAnswer, IsRefuteAnswer}
 use Rattle.type_terms.specs.Promised.Verdicts.{Verdict, IsVerdict}
 use Rattle.view_lowering.specs.Promised.Questions.{variable_kinds}
 use Rattle.sessions.specs.Promised.OwnValues.{HasNoParameter, SpeaksOfOwn}
@@ -27,10 +27,13 @@ AreForced V ks E r (yes ts) =
     HoldUnknownsAlone ts → (s : SolutionBy (HasProof V E) ks r) → ((x : SolutionBy (HasProof V E) ks r) → x.values ≡ s.values) → ts ≡ s.values
 AreForced V ks E r a = Unit {0}
 
--- A question without where-clauses and parameters has no solution if it is unproved.
-abbrev pub IsUnsolvedIfUnproved : World → List Sort → List Reference → Reference → ProveAnswer → Type 0
-IsUnsolvedIfUnproved V ks E r unproved = E ≡ [] → HasNoParameter r → SolutionBy (HasProof V []) ks r → ⊥
-IsUnsolvedIfUnproved V ks E r a = Unit {0}
+-- The answer to a question without where-clauses and parameters covers its solutions: each is the values of a yes, with terms us for the
+-- variables that these leave open, of kinds js, and if the question is unproved there is none.
+abbrev pub CoversSolutions : World → List Sort → List Reference → Reference → ProveAnswer → Type 0
+CoversSolutions V ks E r (yes ts) =
+    E ≡ [] → HasNoParameter r → (s : SolutionBy (HasProof V []) ks r) → (js : List Sort) × (us : List Trees) × FitKinds js us × (map (filled js us) ts ≡ s.values)
+CoversSolutions V ks E r unproved = E ≡ [] → HasNoParameter r → SolutionBy (HasProof V []) ks r → ⊥
+CoversSolutions V ks E r maybe = Unit {0}
 
 -- Every chain of premises from r has fewer than n steps.
 abbrev pub EndsWithin : ℕ → World → List Reference → Reference → Type 0
@@ -71,7 +74,7 @@ IsProved limit d q a =
     let E = map erased_reference q.clauses in
     IsProveAnswer limit (view_in d q.asker) (variable_kinds q) E (erased_reference q.asked) a × SpeaksOfOwn (view_in d q.asker) E (erased_reference q.asked) a
     × AreForced (view_in d q.asker) (variable_kinds q) E (erased_reference q.asked) a
-    × IsUnsolvedIfUnproved (view_in d q.asker) (variable_kinds q) E (erased_reference q.asked) a
+    × CoversSolutions (view_in d q.asker) (variable_kinds q) E (erased_reference q.asked) a
     × IsDecided limit (view_in d q.asker) E (erased_reference q.asked) a
 
 -- The answer to a `refute` query, by what its crate sees of the text.

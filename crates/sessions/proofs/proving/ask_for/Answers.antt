@@ -63,7 +63,7 @@ returns-in-Proved-clause-answer g c =
     let e = c.ask_until_settled.ensures in
     over-ok c.read_values_in.result
     (read-goal g.H.GoalHandler.meaning (map arg_sort c.args.unknowns.now) c.args.search.now.cx c.args.table.now c.requires.table c.args.goal.now
-    c.requires.goal c.ask_until_settled.new.search.cx c.ask_until_settled.new.table e.again.table e.again.ready.lawful e.asked.entries (e.proved done) c.args.unknowns.now c.requires.unknowns c.args.search.now.graph.root_depth c.read_values_in.new.cx.interner.entries)
+    c.requires.goal c.ask_until_settled.new.search.cx c.ask_until_settled.new.table e.again.table e.again.ready.lawful e.asked.entries (e.proved done) e.covers c.args.unknowns.now c.requires.unknowns c.args.search.now.graph.root_depth c.read_values_in.new.cx.interner.entries)
     c.read_values_in.ensures.read
 
 pub returns-in-Unproved-clause-rest : goal.returns-in-Unproved-clause-rest
