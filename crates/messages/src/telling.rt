@@ -1,7 +1,9 @@
 //! Diagnostics that are being written.
 
-ghost use Rattle.std.specs.Prelude.{◌≡◌, ◌+◌, vec_len, false, true, IfNone, IfOk, IfSome, OnOk, OnSome};
+ghost use Rattle.std.specs.Prelude.{◌≡◌, false, true, IfNone, IfOk, IfSome, OnOk, OnSome};
 ghost use Rattle.std.specs.declared.result.Result.TheVariants.{Ok};
+ghost use Rattle.explain_diagnostics.specs.declared.diagnostic.Level.TheVariants.{Help, Note};
+ghost use Rattle.messages.specs.Told.{AddsChild, AddsMark, AddsRow};
 
 use crate::sentences::{Piece, Sentence, impl_line_in, plain, sentence_text, with_one};
 use explain_diagnostics::{Diagnostic, ErrCode, Level, ProofRow, Span, SpanLabel, Subdiagnostic};
@@ -101,7 +103,7 @@ impl Telling {
 
     /// Adds a mark with a label to the message.
     fn add_mark(&mut self, span: Span, is_primary: bool, label: Sentence<'_>)
-        ensures told { self.new.is_refused ≡ false → vec_len self.new.told.spans ≡ vec_len self.old.told.spans + 1 }
+        ensures told { self.new.is_refused ≡ false → AddsMark self.old.told self.new.told span is_primary }
         ensures stays { self.new.is_refused ≡ false → self.old.is_refused ≡ false }
     {
         if let Some(label) = self.text_of(label) {
@@ -116,7 +118,7 @@ impl Telling {
 
     /// Marks what the message is about, with a label.
     pub fn mark(&mut self, span: Span, label: Sentence<'_>)
-        ensures told { self.new.is_refused ≡ false → vec_len self.new.told.spans ≡ vec_len self.old.told.spans + 1 }
+        ensures told { self.new.is_refused ≡ false → AddsMark self.old.told self.new.told span true }
         ensures stays { self.new.is_refused ≡ false → self.old.is_refused ≡ false }
     {
         self.add_mark(span, true, label);
@@ -124,7 +126,7 @@ impl Telling {
 
     /// Marks another part, with a label.
     pub fn mark_beside(&mut self, span: Span, label: Sentence<'_>)
-        ensures told { self.new.is_refused ≡ false → vec_len self.new.told.spans ≡ vec_len self.old.told.spans + 1 }
+        ensures told { self.new.is_refused ≡ false → AddsMark self.old.told self.new.told span false }
         ensures stays { self.new.is_refused ≡ false → self.old.is_refused ≡ false }
     {
         self.add_mark(span, false, label);
@@ -132,7 +134,7 @@ impl Telling {
 
     /// Adds a child without a span.
     fn add_child(&mut self, level: Level, message: Sentence<'_>)
-        ensures told { self.new.is_refused ≡ false → vec_len self.new.told.children ≡ vec_len self.old.told.children + 1 }
+        ensures told { self.new.is_refused ≡ false → AddsChild self.old.told self.new.told level }
         ensures stays { self.new.is_refused ≡ false → self.old.is_refused ≡ false }
     {
         if let Some(message) = self.text_of(message) {
@@ -143,7 +145,7 @@ impl Telling {
 
     /// Adds a note without a span.
     pub fn note(&mut self, message: Sentence<'_>)
-        ensures told { self.new.is_refused ≡ false → vec_len self.new.told.children ≡ vec_len self.old.told.children + 1 }
+        ensures told { self.new.is_refused ≡ false → AddsChild self.old.told self.new.told Note }
         ensures stays { self.new.is_refused ≡ false → self.old.is_refused ≡ false }
     {
         self.add_child(Level::Note, message);
@@ -151,7 +153,7 @@ impl Telling {
 
     /// Adds a help without a span.
     pub fn help(&mut self, message: Sentence<'_>)
-        ensures told { self.new.is_refused ≡ false → vec_len self.new.told.children ≡ vec_len self.old.told.children + 1 }
+        ensures told { self.new.is_refused ≡ false → AddsChild self.old.told self.new.told Help }
         ensures stays { self.new.is_refused ≡ false → self.old.is_refused ≡ false }
     {
         self.add_child(Level::Help, message);
@@ -200,7 +202,7 @@ impl Telling {
 
     /// Adds a row of a proof: what holds, how deep it is below the first row, and why it holds.
     pub fn row(&mut self, depth: usize, goal: Piece<'_>, reason: Sentence<'_>)
-        ensures told { self.new.is_refused ≡ false → vec_len self.new.told.proof ≡ vec_len self.old.told.proof + 1 }
+        ensures told { self.new.is_refused ≡ false → AddsRow self.old.told self.new.told depth }
         ensures stays { self.new.is_refused ≡ false → self.old.is_refused ≡ false }
     {
         let impl_line = impl_line_in(reason);
