@@ -184,7 +184,11 @@ fn has_no_row(cx: &Interner, declarations: &Declarations, reference: TraitRef) -
 /// or with a variable whose number is 64 or more, only heads are compared.
 ///
 /// Fails with `Memory` if memory is refused, or with `Full` if a table of the session is full.
-pub fn no_impl_fits(session: &mut Session<'_>, walk: &GoalWalk, place: usize) -> Result<bool, Fault>
+pub(crate) fn no_impl_fits(
+    session: &mut Session<'_>,
+    walk: &GoalWalk,
+    place: usize,
+) -> Result<bool, Fault>
     requires { WalkHeld session.old.terms walk.now }
     ensures none { IfOk result (λ b. b ≡ true
         → HasNoImplAt session.old.terms (view_in session.old.declarations session.old.of_crate) walk.now.references.items place) }
@@ -199,7 +203,7 @@ pub fn no_impl_fits(session: &mut Session<'_>, walk: &GoalWalk, place: usize) ->
 ///
 /// `false` says nothing. `true` comes only for types that are no tuples, no `fn` pointers and no `dyn`, and not for `Unsize` or auto
 /// traits. For `Sized` it comes only for `str` and slices. If the trace has no such index, the answer is `false`.
-pub fn no_built_in_rule_fits(session: &Session<'_>, walk: &GoalWalk, place: usize) -> bool
+pub(crate) fn no_built_in_rule_fits(session: &Session<'_>, walk: &GoalWalk, place: usize) -> bool
     requires { WalkHeld session.now.terms walk.now }
     ensures { result ≡ true
         → HasNoRowAt session.now.terms (view_in session.now.declarations session.now.of_crate) walk.now.references.items place }

@@ -139,7 +139,7 @@ fn is_held(session: &mut Session<'_>, walk: &GoalWalk, place: usize) -> Result<b
 /// Of those that the walk shows as proved the steps are checked; one that is not settled, as in coherence where other crates may have impls,
 /// is asked once more outside it, and the steps of that walk are checked. One that is not named may have a proof too, as where it needs a
 /// where-clause or a rule that is not checked. The fault is `Memory` where memory is refused, or `Full` where a table of the session is full.
-pub fn held_goals(session: &mut Session<'_>, walk: &GoalWalk) -> Result<Vec<usize>, Fault>
+pub(crate) fn held_goals(session: &mut Session<'_>, walk: &GoalWalk) -> Result<Vec<usize>, Fault>
     requires { WalkHeld session.old.terms walk.now }
     ensures holds { IfOk result (λ ps. Each
         (HoldsAt session.old.terms (view_in session.old.declarations session.old.of_crate) walk.now.references.items) ps.items) }

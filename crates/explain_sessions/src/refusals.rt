@@ -77,7 +77,7 @@ fn is_refused_at(session: &mut Session<'_>, walk: &GoalWalk, place: usize) -> Re
 /// Each goal that the trace has as refused is evaluated once more in coherence, without where-clauses. A goal that is not named may be
 /// refused too, for example if it has a parameter or too many variables. Fails with `Memory` if memory is refused, or with `Full` if a
 /// table of the session is full.
-pub fn refused_goals(session: &mut Session<'_>, walk: &GoalWalk) -> Result<Vec<usize>, Fault>
+pub(crate) fn refused_goals(session: &mut Session<'_>, walk: &GoalWalk) -> Result<Vec<usize>, Fault>
     requires { WalkHeld session.old.terms walk.now }
     ensures refused { IfOk result (λ ps. Each
         (IsRefusedAt session.old.terms (view_in session.old.declarations session.old.of_crate) session.old.of_crate walk.now.references.items) ps.items) }

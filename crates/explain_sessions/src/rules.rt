@@ -283,7 +283,7 @@ fn checked_in(cx: &mut SolverCx<Solver>, walk: &GoalWalk) -> Result<CheckedCandi
 ///
 /// A candidate that is not named may be a rule too, for example if the impl needs values for variables of its goal, or if the built-in rule
 /// is not checked. Fails with `Memory` if memory is refused, or with `Full` if a table of the session is full.
-pub fn checked_candidates(
+pub(crate) fn checked_candidates(
     session: &mut Session<'_>,
     walk: &GoalWalk,
 ) -> Result<CheckedCandidates, Fault>

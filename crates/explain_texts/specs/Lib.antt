@@ -5,4 +5,3 @@ pub use Rattle.explain_sessions.specs.Sessions
 pub use Rattle.explain_sessions.specs.TextLanguage
 pub use Rattle.explain_sessions.specs.TypeTerms
 pub use Rattle.explain_sessions.specs.Workspace
-pub use Rattle.text_parser.specs.TextNames

@@ -37,5 +37,4 @@ pub use explain_diagnostics;
 pub use explain_sessions;
 pub use explain_sessions::{sessions, type_terms, workspace};
 pub use messages;
-pub use text_parser;
 pub use text_printer;

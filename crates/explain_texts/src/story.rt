@@ -92,7 +92,7 @@ impl Story<'_> {
     }
 
     /// The rendered trait reference of a goal.
-    pub fn spoken(&self, place: usize) -> Option<&Spoken> {
+    pub(crate) fn spoken(&self, place: usize) -> Option<&Spoken> {
         self.spoken.get(place)
     }
 
@@ -137,7 +137,7 @@ impl Story<'_> {
     }
 
     /// How a goal is answered.
-    pub fn answer(&self, place: usize) -> Answer {
+    pub(crate) fn answer(&self, place: usize) -> Answer {
         match self.walk.node(place) {
             Some(node) => node.answer,
             None => Answer::Nothing,
@@ -228,12 +228,12 @@ impl Story<'_> {
     }
 
     /// Whether it is claimed that a goal has a proof.
-    pub fn is_held(&self, place: usize) -> bool {
+    pub(crate) fn is_held(&self, place: usize) -> bool {
         self.claims.held.contains(&place)
     }
 
     /// Which crates outside the view may have an impl for a goal, if that is claimed. The inner `None` says that the goal is knowable.
-    pub fn unseen(&self, place: usize) -> Option<Option<Conflict>> {
+    pub(crate) fn unseen(&self, place: usize) -> Option<Option<Conflict>> {
         for found in &self.claims.unseen {
             if found.0 == place {
                 return Some(found.1);
