@@ -5,8 +5,8 @@ use Rattle.std.specs.List.{position_from}
 use Rattle.std.specs.Str.{bytes_eq}
 use Rattle.text_lines.specs.TokenViews.{text_of}
 use Rattle.text_language.specs.Uses.{next_kind}
-use Rattle.workspace.specs.Views.{sort_of_kind, sorts_of}
-use Rattle.workspace.specs.declared.cell.ParamKind.{ParamKind}
+use Rattle.text_tables.specs.Views.{sort_of_kind, sorts_of}
+use Rattle.text_tables.specs.declared.cell.ParamKind.{ParamKind}
 
 -- looked for from place i on
 abbrev pub place_from : List ℕ → ℕ → List (Bor (List ℕ)) → Option ℕ

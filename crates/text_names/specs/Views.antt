@@ -5,7 +5,7 @@ use Rattle.std.specs.declared.vec.Vec.{Vec}
 use Rattle.type_terms.specs.Promised.Label as label
 use Rattle.text_language.specs.Tokens.{number_from}
 use Rattle.text_lines.specs.TokenViews.{primitive_label, text_of}
-use Rattle.workspace.specs.Views.{sort_of_kind}
+use Rattle.text_tables.specs.Views.{sort_of_kind}
 use Rattle.text_names.specs.Resolved as resolved
 use Rattle.text_names.specs.declared.resolved.Region.{Region}
 use Rattle.text_names.specs.declared.resolved.Region.TheVariants as regions

@@ -1,7 +1,7 @@
 -- What the state of the machine in code stands for, and what its methods do.
 use Rattle.std.specs.Prelude.{◌≡◌, ℕ, Bool, true, false, List, [], ◌∷◌, Result, Ok, Err}
 use Rattle.std.specs.declared.alloc.AllocError.{AllocError}
-use Rattle.workspace.specs.Views.{sort_of_kind, sorts_of}
+use Rattle.text_tables.specs.Views.{sort_of_kind, sorts_of}
 use Rattle.text_names.specs.Machine as machine
 use Rattle.text_names.specs.Machine.{Sight, WalkState, visiting, going, finished, Found, WalkReaches}
 use Rattle.text_lines.specs.Cells.{Cell}

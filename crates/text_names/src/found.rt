@@ -3,7 +3,7 @@ ghost use Rattle.std.specs.Prelude.{◌≡◌, ◌∷◌, ◌++◌, [], ◌||◌
 ghost use Rattle.text_language.specs.Uses.{length_uses};
 ghost use Rattle.text_language.specs.Faults.{variables_in};
 ghost use Rattle.text_lines.specs.TypeViews.{length_of};
-ghost use Rattle.workspace.specs.Views.{sort_of_kind};
+ghost use Rattle.text_tables.specs.Views.{sort_of_kind};
 ghost use Rattle.text_names.specs.Views.{resolved_in};
 
 use crate::findings::Findings;
@@ -13,7 +13,7 @@ use crate::walk::Place;
 use std::alloc::{AllocError, Global};
 use std::marker::Model;
 use text_lines::Length;
-use workspace::ParamKind;
+use text_tables::ParamKind;
 
 /// What is found so far. What was met last comes first. The variables and the resolved cells are reversed at the end.
 pub(crate) struct Found<'a> {

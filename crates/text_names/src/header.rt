@@ -23,7 +23,7 @@ use crate::params::ParamNames;
 use crate::parts::cells_to;
 use std::alloc::{AllocError, Global};
 use text_lines::{Cell, ClauseSpans, LineRead, Statement};
-use workspace::Known;
+use text_tables::Known;
 
 /// Traits of `core` that have built-in rules alone: `Sized`, `Tuple`, `FnPtr`, `FnOnce`, `FnMut`, `Fn`, `Unsize`.
 const BUILT_IN_TRAITS: [u32; 7] = [0, 3, 4, 5, 6, 7, 8];

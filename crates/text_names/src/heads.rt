@@ -10,13 +10,13 @@ ghost use Rattle.text_names.specs.LookUps.{params_of_sort};
 ghost use Rattle.text_names.specs.Machine.{seen_items, params, name_cells};
 ghost use Rattle.text_names.specs.Resolved as resolved;
 ghost use Rattle.text_names.specs.Resolved.{const_cell, length_cell, named_cell};
-ghost use Rattle.workspace.specs.Views.{sort_of_kind, sorts_of, known_of};
+ghost use Rattle.text_tables.specs.Views.{sort_of_kind, sorts_of, known_of};
 ghost use Rattle.text_names.specs.Views.{label_in, resolved_in};
 
 use crate::looked_up::Names;
 use crate::resolved::{NodeLabel, ResolvedCell};
 use text_lines::Length;
-use workspace::{Known, ParamKind};
+use text_tables::{Known, ParamKind};
 
 /// The index of a name among the line's parameters of this kind. If it is none of them, their number.
 fn place_among<N: Names>(names: &N, sort: ParamKind, name: &[u8]) -> usize

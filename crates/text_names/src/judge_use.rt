@@ -11,7 +11,7 @@ ghost use Rattle.text_language.specs.Faults.{is_crate, is_unknown_use, is_other_
 ghost use Rattle.text_language.specs.Promised.Faults.{is_among, repeats};
 ghost use Rattle.text_language.specs.Promised.Declarations.{Known, known};
 ghost use Rattle.text_names.specs.LookUps.{is_hidden_home};
-ghost use Rattle.workspace.specs.Views.{known_of, sort_of_kind};
+ghost use Rattle.text_tables.specs.Views.{known_of, sort_of_kind};
 ghost use Rattle.text_names.specs.Views.{region_in};
 ghost use Rattle.text_names.specs.Resolved.{region_of, optional_region};
 ghost use Rattle.text_names.specs.Machine.{Sight, findings, seen_items, params, sort_misfits, name_misfits, lifetime_misfits};
@@ -23,8 +23,8 @@ use crate::name_set::NameSet;
 use crate::resolved::Region;
 use std::alloc::{AllocError, Global};
 use text_lines::Length;
+use text_tables::{Known, ParamKind};
 use type_terms::CrateId;
-use workspace::{Known, ParamKind};
 
 /// How many bytes a name may have.
 const NAME_LIMIT: usize = 64;

@@ -4,10 +4,10 @@ ghost use Rattle.std.specs.Option.{option_map};
 ghost use Rattle.text_language.specs.Promised.Declarations.{known};
 ghost use Rattle.text_names.specs.Machine.{Sight, seen_items, params};
 ghost use Rattle.text_names.specs.LookUps.{is_hidden_home, is_own_name, place_in, params_of_sort};
-ghost use Rattle.workspace.specs.Views.{known_of, sort_of_kind};
+ghost use Rattle.text_tables.specs.Views.{known_of, sort_of_kind};
 
+use text_tables::{Known, ParamKind};
 use type_terms::CrateId;
-use workspace::{Known, ParamKind};
 
 /// What the names of one line are looked up in: what is declared before it, the struct or trait that it declares itself, and its
 /// parameters. Of the line this depends on its kind, its name and its parameters alone.

@@ -17,7 +17,7 @@ use crate::walk::{Frame, Inside, Next, Place, Walk};
 use crate::{heads, judge_use};
 use std::alloc::{AllocError, Global};
 use text_lines::Cell;
-use workspace::ParamKind;
+use text_tables::ParamKind;
 
 /// How many types may be nested.
 const DEPTH_LIMIT: usize = 64;

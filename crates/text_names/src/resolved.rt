@@ -1,7 +1,7 @@
 //! Types whose names are looked up, as lists of cells.
 
 use text_lines::Primitive;
-use workspace::ParamKind;
+use text_tables::ParamKind;
 
 /// What the name of a lifetime stands for. An omitted one is `Static`.
 #[derive(Clone, Copy)]

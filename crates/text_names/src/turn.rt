@@ -2,7 +2,7 @@
 ghost use Rattle.std.specs.Prelude.{◌≡◌, ◌∷◌, drop};
 ghost use Rattle.text_language.specs.Uses.{next_kind};
 ghost use Rattle.text_names.specs.Machine.{Sight, arg_place, args_inside, frame_step, going, inside_step, item_step, step, type_place, types_inside, visit_step};
-ghost use Rattle.workspace.specs.Views.{sort_of_kind, sorts_of};
+ghost use Rattle.text_tables.specs.Views.{sort_of_kind, sorts_of};
 ghost use Rattle.text_names.specs.WalkViews.{frame_of, frames_in, inside_of, place_of, state_in, is_finished, WalkSteps, WalkComes, WalkEnds};
 
 use crate::looked_up::Names;
@@ -10,7 +10,7 @@ use crate::resolved::NodeLabel;
 use crate::walk::{BoundHead, Frame, Inside, Next, Place, Walk};
 use std::alloc::{AllocError, Global};
 use text_lines::Cell;
-use workspace::ParamKind;
+use text_tables::ParamKind;
 
 /// The position of an argument for a parameter of this kind. Only types count as nested.
 fn arg_place(sort: ParamKind, room: Option<usize>, is_kept: bool) -> Place

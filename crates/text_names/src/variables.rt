@@ -4,7 +4,7 @@ ghost use Rattle.std.specs.List.{list_any};
 ghost use Rattle.type_terms.specs.Promised.Label as label;
 ghost use Rattle.type_terms.specs.Promised.Trees.{is_sort};
 ghost use Rattle.text_language.specs.Faults.{is_of_other_kind};
-ghost use Rattle.workspace.specs.Views.{sort_of_kind};
+ghost use Rattle.text_tables.specs.Views.{sort_of_kind};
 ghost use Rattle.text_names.specs.UsedNames.{Holds};
 ghost use Rattle.text_names.specs.Views.{variable_in};
 ghost use Rattle.text_names.specs.Variables.{other_kind_names, HoldsKinds, have_two_kinds};
@@ -12,7 +12,7 @@ ghost use Rattle.text_names.specs.Variables.{other_kind_names, HoldsKinds, have_
 use crate::name_set::NameSet;
 use crate::resolved::Variable;
 use std::alloc::{AllocError, Global};
-use workspace::ParamKind;
+use text_tables::ParamKind;
 
 /// For each kind, the names of the variables of other kinds.
 #[derive(Drop)]

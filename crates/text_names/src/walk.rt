@@ -2,7 +2,7 @@
 ghost use Rattle.std.specs.Prelude.{◌≡◌, ◌+◌, ◌<◌, ◌^◌, ◌∷◌, [], length, map, reverse, not, ◌&&◌, OnOk, MatchOption};
 ghost use Rattle.std.specs.Option.{option_map};
 ghost use Rattle.text_lines.specs.TokenViews.{text_of};
-ghost use Rattle.workspace.specs.Views.{sort_of_kind};
+ghost use Rattle.text_tables.specs.Views.{sort_of_kind};
 ghost use Rattle.text_names.specs.Views.{resolved_in, label_in};
 ghost use Rattle.text_names.specs.WalkViews.{place_of, frame_of, frames_in, WalkSteps};
 ghost use Rattle.text_names.specs.Machine.{Sight, reference_step, lifetime_step, leaf_step, variable_step, number_step, named_step, wrapped_step, array_step, tuple_step, fn_step, fn_to_step, bound_step, fn_frame, params, is_const_place, deeper, type_place, outer_scope, going, using};
@@ -22,7 +22,7 @@ use crate::resolved::{NodeLabel, ResolvedCell};
 use crate::{heads, judge_use};
 use std::alloc::{AllocError, Global};
 use text_lines::{Cell, CellCursor, Length};
-use workspace::ParamKind;
+use text_tables::ParamKind;
 
 /// The position of an argument or a type.
 #[derive(Clone, Copy)]

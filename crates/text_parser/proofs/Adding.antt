@@ -10,15 +10,15 @@ use Rattle.text_lines.specs.declared.statement.LineRead.{LineRead}
 use Rattle.text_lines.specs.declared.statement.Span.{Span}
 use Rattle.text_lines.proofs.WhatIsSaid.{name-is-said}
 use Rattle.text_parser.specs.Declaring.{IsFaultless, AddsLine}
-use Rattle.workspace.specs.Parts.{AddsStructLine, AddsTraitLine, AddsImplLine, AddsQuestionLine}
-use Rattle.workspace.specs.TermCells.{trees_of}
-use Rattle.workspace.specs.Views.{sorts_of, cells_of, reference_of, sorted_params, question_of, is_refute, asker_of}
-use Rattle.workspace.specs.declared.cell.ParamKind.{ParamKind}
-use Rattle.workspace.specs.declared.cell.TermCell.{TermCell}
-use Rattle.workspace.specs.declared.declared.Asked.{Asked}
-use Rattle.workspace.specs.declared.declared.Param as kept
-use Rattle.workspace.specs.declared.declared.QuestionEntry.{QuestionEntry}
-use Rattle.workspace.specs.declared.declared.ReferenceCells.{ReferenceCells}
+use Rattle.text_tables.specs.Parts.{AddsStructLine, AddsTraitLine, AddsImplLine, AddsQuestionLine}
+use Rattle.text_tables.specs.TermCells.{trees_of}
+use Rattle.text_tables.specs.Views.{sorts_of, cells_of, reference_of, sorted_params, question_of, is_refute, asker_of}
+use Rattle.text_tables.specs.declared.cell.ParamKind.{ParamKind}
+use Rattle.text_tables.specs.declared.cell.TermCell.{TermCell}
+use Rattle.text_tables.specs.declared.declared.Asked.{Asked}
+use Rattle.text_tables.specs.declared.declared.Param as kept
+use Rattle.text_tables.specs.declared.declared.QuestionEntry.{QuestionEntry}
+use Rattle.text_tables.specs.declared.declared.ReferenceCells.{ReferenceCells}
 use Rattle.text_parser.specs.BareLines.{sort_of_param, sorted_param}
 use Rattle.text_parser.specs.Entries.{OfRead, AreFields, AreBoundsOfLine, IsMain, AreClauses, SaysStruct, SaysTrait, SaysImpl, IsStruct, IsTrait, IsImpl, IsAsking, IsQuestionEntry}
 use Rattle.text_parser.proofs.WhatIsAdded.{struct-line, trait-line, impl-line, question-line, Says, firsts, firsts-kept, variables-kept}

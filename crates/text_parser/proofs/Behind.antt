@@ -7,7 +7,7 @@ use Rattle.text_language.specs.Promised.Declarations.{Declarations}
 use Rattle.text_language.specs.Declarations.{nothing_declared}
 use Rattle.text_language.specs.Text.{LineGives, LinesGive, ends, fails, goes_on, TextGives, fits, lines_of, onto_line}
 use Rattle.text_language.specs.Promised.Text.{text_limit}
-use Rattle.workspace.specs.Numbered.{IsFew}
+use Rattle.text_tables.specs.Numbered.{IsFew}
 use Rattle.text_parser.specs.Behind.{IsOneLine, behind, FitsBehind}
 use Rattle.text_parser.specs.Lines.{lines_behind}
 use Rattle.text_parser.proofs.Taking.{given-few, few-weaken}

@@ -16,8 +16,8 @@ use Rattle.text_language.specs.Promised.Faults.{with_own, own_struct, own_trait,
 use Rattle.text_language.specs.Lowering.{Meanings}
 use Rattle.text_lines.specs.Faultless.{UseFits, UsesFit}
 use Rattle.text_lines.proofs.FittingUses.{faultless-uses}
-use Rattle.workspace.specs.Numbered.{IsNumbered, IsFew}
-use Rattle.workspace.proofs.Each.{Every, Every-from_Each}
+use Rattle.text_tables.specs.Numbered.{IsNumbered, IsFew}
+use Rattle.text_tables.proofs.Each.{Every, Every-from_Each}
 use Rattle.text_parser.specs.Laws.{AllOf, BoundFits, ClauseFits, LineFits}
 use Rattle.text_parser.specs.Meant.{KnownFits, NumbersFit, IsKnownStruct, NameMeans, UseMeans, UsesMean}
 

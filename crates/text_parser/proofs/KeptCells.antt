@@ -10,11 +10,11 @@ use Rattle.text_names.specs.Resolved.{ResolvedCell, node_cell, param_cell, varia
 use Rattle.text_names.specs.Views.{resolved_in}
 use Rattle.text_names.specs.declared.resolved.ResolvedCell as code
 use Rattle.text_names.specs.Standing.{standing}
-use Rattle.workspace.specs.TermCells.{behind_cells, behind_cell, trees_of}
-use Rattle.workspace.specs.Made.{StackPart, parts_of, parts_behind, CellHeld, CellsHeld, AreMade}
-use Rattle.workspace.specs.Views.{cell_of, cells_of}
-use Rattle.workspace.specs.declared.cell.TermCell.{TermCell}
-use Rattle.workspace.proofs.Each.{Every}
+use Rattle.text_tables.specs.TermCells.{behind_cells, behind_cell, trees_of}
+use Rattle.text_tables.specs.Made.{StackPart, parts_of, parts_behind, CellHeld, CellsHeld, AreMade}
+use Rattle.text_tables.specs.Views.{cell_of, cells_of}
+use Rattle.text_tables.specs.declared.cell.TermCell.{TermCell}
+use Rattle.text_tables.proofs.Each.{Every}
 use Rattle.text_parser.specs.Making.{Makes, label_autos, next_autos, term_of}
 use Rattle.text_parser.specs.Keeping.{pushed_on, PutsTrees, AddsCells}
 use Rattle.text_parser.specs.Numbering.{CellStands}

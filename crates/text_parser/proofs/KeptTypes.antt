@@ -34,13 +34,13 @@ use Rattle.text_names.specs.Resolved.{type_before, args_before}
 use Rattle.text_names.specs.Views.{resolved_in, variable_in}
 use Rattle.text_names.specs.declared.parts.ResolvedPart.{ResolvedPart}
 use Rattle.text_names.proofs.StandingLaws.{at-type, args_list}
-use Rattle.workspace.specs.TermCells.{trees_of, joined}
-use Rattle.workspace.specs.Made.{StackPart, type_part, is_arg, is_type, AreMade, ReferenceMade, ReferencesMade}
-use Rattle.workspace.specs.Views.{cells_of, reference_of}
-use Rattle.workspace.specs.declared.cell.TermCell.{TermCell}
-use Rattle.workspace.specs.declared.cell.TermCell.TheVariants as term
-use Rattle.workspace.specs.declared.declared.ReferenceCells.{ReferenceCells}
-use Rattle.workspace.proofs.Each.{Every}
+use Rattle.text_tables.specs.TermCells.{trees_of, joined}
+use Rattle.text_tables.specs.Made.{StackPart, type_part, is_arg, is_type, AreMade, ReferenceMade, ReferencesMade}
+use Rattle.text_tables.specs.Views.{cells_of, reference_of}
+use Rattle.text_tables.specs.declared.cell.TermCell.{TermCell}
+use Rattle.text_tables.specs.declared.cell.TermCell.TheVariants as term
+use Rattle.text_tables.specs.declared.declared.ReferenceCells.{ReferenceCells}
+use Rattle.text_tables.proofs.Each.{Every}
 use Rattle.text_parser.specs.Keeping.{pushed_on, PutsTrees, AddsCells}
 use Rattle.text_parser.specs.Kept.{IsSightOf, HasSmallNumbers, NumberingFits, HasSmallPlaces, IsReadAs, IsOfLine, KeepsType, MeansBound, MeansReference}
 use Rattle.text_parser.specs.Laws.{AllOf, ClauseFits}

@@ -40,12 +40,12 @@ use Rattle.text_parser.specs.declared.numbering.Numbering.{Numbering}
 use Rattle.text_parser.specs.declared.numbering.Numbering.TheVariants.{Item, Question}
 use Rattle.text_parser.proofs.Fits.{faultless-parts, numbers-fit}
 use Rattle.text_parser.proofs.Sighted.{same-sight, speaks}
-use Rattle.workspace.specs.Made.{AreMade, ReferenceMade, ReferencesMade, is_type}
-use Rattle.workspace.specs.Numbered.{IsNumbered, IsFew}
-use Rattle.workspace.specs.TermCells.{trees_of}
-use Rattle.workspace.specs.Views.{cells_of, reference_of}
-use Rattle.workspace.specs.declared.cell.TermCell.{TermCell}
-use Rattle.workspace.specs.declared.declared.ReferenceCells.{ReferenceCells}
+use Rattle.text_tables.specs.Made.{AreMade, ReferenceMade, ReferencesMade, is_type}
+use Rattle.text_tables.specs.Numbered.{IsNumbered, IsFew}
+use Rattle.text_tables.specs.TermCells.{trees_of}
+use Rattle.text_tables.specs.Views.{cells_of, reference_of}
+use Rattle.text_tables.specs.declared.cell.TermCell.{TermCell}
+use Rattle.text_tables.specs.declared.declared.ReferenceCells.{ReferenceCells}
 use Rattle.text_parser.specs.Entries.{AreFields, AreBoundsOfLine, IsMain, AreClauses, AreVariables, IsStruct, IsTrait, IsImpl, AsksQuestion}
 use Rattle.text_parser.specs.Sights.{IsSightOfRead}
 

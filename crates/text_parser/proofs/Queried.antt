@@ -7,11 +7,11 @@ use Rattle.text_language.specs.Text.{adds}
 use Rattle.text_lines.specs.Statement.{Param}
 use Rattle.text_lines.specs.Views.{statement_of}
 use Rattle.text_lines.specs.declared.statement.LineRead.{LineRead}
-use Rattle.workspace.specs.Tables.{with_question}
-use Rattle.workspace.specs.Views.{question_of}
-use Rattle.workspace.specs.declared.declared.Asked.{Asked}
-use Rattle.workspace.specs.declared.declared.QuestionEntry.{QuestionEntry}
-use Rattle.workspace.specs.Parts.{IsWrittenQuestion}
+use Rattle.text_tables.specs.Tables.{with_question}
+use Rattle.text_tables.specs.Views.{question_of}
+use Rattle.text_tables.specs.declared.declared.Asked.{Asked}
+use Rattle.text_tables.specs.declared.declared.QuestionEntry.{QuestionEntry}
+use Rattle.text_tables.specs.Parts.{IsWrittenQuestion}
 use Rattle.text_parser.specs.Declaring.{FindsFault, AddsLine, IsFaultless}
 use Rattle.text_parser.specs.Entries.{IsAsking, IsQuestionEntry}
 use Rattle.text_parser.specs.Forms.{IsForm}

@@ -3,7 +3,7 @@ use Rattle.std.proofs.Common.{◌≡◌, ℕ, zero, suc, ◌-◌, ◌<◌, Bool,
 use Rattle.std.specs.Prelude.{slice_get, unwrap_or}
 use Rattle.type_terms.specs.Promised.Worlds.{core}
 use Rattle.text_language.specs.Promised.Declarations.{Declarations, last_crate, last_changed, impl_owner}
-use Rattle.workspace.specs.Numbered.{EachNumbered, IsNumbered}
+use Rattle.text_tables.specs.Numbered.{EachNumbered, IsNumbered}
 
 small-there : (cs : List ℕ) (n k : ℕ) → EachNumbered (λ i c. c < n) cs → k < length cs → unwrap_or (slice_get cs k) core < n
 small-there [] n k h l = absurd (omega (arith, l))

@@ -6,7 +6,7 @@ use Rattle.type_terms.specs.Promised.Label.{Sort, of_type, of_const, of_lifetime
 use Rattle.text_language.specs.Promised.Syntax.{Types, no_types, and_type, Args, no_args, and_arg, Arg, lifetime_arg, number_arg, type_arg}
 use Rattle.text_language.specs.Uses.{types_count, args_count, next_kind, other_kinds}
 use Rattle.text_language.specs.Lowering.{inserted}
-use Rattle.workspace.specs.Made.{StackPart, type_part, const_part, lifetime_part, auto_part, is_type, is_arg, is_below, off, off_autos}
+use Rattle.text_tables.specs.Made.{StackPart, type_part, const_part, lifetime_part, auto_part, is_type, is_arg, is_below, off, off_autos}
 
 -- ---- types
 abbrev pub types_parts : Types → List StackPart → List StackPart

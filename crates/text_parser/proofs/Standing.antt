@@ -11,12 +11,12 @@ use Rattle.text_names.specs.Resolved.{ResolvedCell, node_cell, param_cell, varia
 use Rattle.text_names.specs.Standing as standing
 use Rattle.text_names.specs.Standing.{trees_behind, standing}
 use Rattle.text_names.proofs.StandingLaws.{args_list, at-arg}
-use Rattle.workspace.specs.TermCells as term
-use Rattle.workspace.specs.TermCells.{behind_cell, behind_cells, joined}
-use Rattle.workspace.specs.Made.{StackPart, is_arg}
+use Rattle.text_tables.specs.TermCells as term
+use Rattle.text_tables.specs.TermCells.{behind_cell, behind_cells, joined}
+use Rattle.text_tables.specs.Made.{StackPart, is_arg}
 use Rattle.text_parser.specs.Making.{term_of}
 use Rattle.text_parser.specs.Keeping.{pushed_on}
-use Rattle.workspace.proofs.Each.{Every}
+use Rattle.text_tables.proofs.Each.{Every}
 use Rattle.text_parser.proofs.Stacks.{arg_part, args_parts, arg-is}
 use Rattle.type_terms.proofs.ListBasics.{rev-cons}
 

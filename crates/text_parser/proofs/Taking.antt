@@ -11,7 +11,7 @@ use Rattle.text_language.specs.Adding.{added, with_impl, impl_of, item_meanings}
 use Rattle.text_language.specs.Text.{LineGives, other_byte, blank, unwritten, faulty, adds, lines_of, TextGives, too_long, fits}
 use Rattle.text_language.specs.Promised.Text.{text_limit, long_line}
 use Rattle.text_lines.specs.TypeViews.{cell_of}
-use Rattle.workspace.specs.Numbered.{IsFew}
+use Rattle.text_tables.specs.Numbered.{IsFew}
 use Rattle.text_lines.specs.declared.statement.LineRead.{LineRead}
 use Rattle.text_names.specs.FaultNumbers.{fault_number}
 use Rattle.text_names.specs.declared.fault.FaultKind.{FaultKind}

@@ -15,7 +15,7 @@ use Rattle.text_language.specs.Faults.{is_bound, is_late, binds_auto, has_early_
 use Rattle.text_language.specs.Lowering.{Meanings, place_among, trait_number, struct_label, inserted, with_auto, autos}
 use Rattle.text_names.specs.Resolved.{Region, bound_region, ResolvedCell, node_cell, param_cell, lifetime_cell, reference_cell, region_under, region_of, optional_region, named_cell, length_cell, autos_before, principals_count, principals, item_region, last_region, dyn_before, type_before, types_before, args_before, arg_before, item_before, items_before}
 use Rattle.text_names.specs.Standing.{first_of_sort}
-use Rattle.workspace.specs.Made.{StackPart, type_part, const_part, lifetime_part, principal_part, auto_part, off_autos, off_principal, putting}
+use Rattle.text_tables.specs.Made.{StackPart, type_part, const_part, lifetime_part, principal_part, auto_part, off_autos, off_principal, putting}
 use Rattle.text_parser.specs.Making.{IsSmall, RegionSmall, variable_number, how_many, Makes}
 use Rattle.text_parser.specs.Meant.{KnownFits, NumbersFit, FewNames, IsKnownStruct, NameMeans, UsesMean}
 use Rattle.text_parser.proofs.Plain.{IsPrimitive, PlainType, PlainTypes, PlainArgs, PlainArg, PlainItem}

@@ -11,9 +11,9 @@ use Rattle.text_language.specs.Adding.{question_meanings, question_of}
 use Rattle.text_lines.specs.Statement.{Param, lifetime_param, type_param, const_param, param_list, Statement, struct_statement, trait_statement, impl_statement, line_statement}
 use Rattle.text_lines.specs.declared.statement.Span.{Span}
 use Rattle.text_lines.specs.declared.statement.ClauseSpans.{ClauseSpans}
-use Rattle.workspace.specs.declared.declared.Param as kept
-use Rattle.workspace.specs.Views.{param_names, sorted_params, variable_of}
-use Rattle.workspace.specs.Parts.{IsStructLine, IsTraitLine, IsImplLine, IsWrittenQuestion}
+use Rattle.text_tables.specs.declared.declared.Param as kept
+use Rattle.text_tables.specs.Views.{param_names, sorted_params, variable_of}
+use Rattle.text_tables.specs.Parts.{IsStructLine, IsTraitLine, IsImplLine, IsWrittenQuestion}
 use Rattle.text_parser.specs.BareLines.{sort_of_param, sorted_param}
 use Rattle.text_parser.specs.Entries.{AreFields, AreBoundsOfLine, IsMain, AreClauses, AreVariables, AsksQuestion}
 use Rattle.text_parser.proofs.Ordering.{kinds-said}

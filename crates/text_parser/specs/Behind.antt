@@ -3,7 +3,7 @@ use Rattle.std.specs.Prelude.{◌≡◌, ℕ, ◌+◌, ◌≤◌, List, [], ◌�
 use Rattle.text_language.specs.Promised.Declarations.{Declarations}
 use Rattle.text_language.specs.Text.{LineGives, TextGives, lines_of}
 use Rattle.text_language.specs.Promised.Text.{text_limit}
-use Rattle.workspace.specs.Numbered.{IsFew}
+use Rattle.text_tables.specs.Numbered.{IsFew}
 
 -- no byte ends it
 abbrev pub IsOneLine : List ℕ → Type 0

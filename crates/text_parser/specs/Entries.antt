@@ -12,9 +12,9 @@ use Rattle.text_language.specs.Adding.{item_meanings, question_meanings}
 use Rattle.text_lines.specs.Lines.{ReadsLine}
 use Rattle.text_lines.specs.Statement.{Param, Statement, struct_statement, trait_statement, impl_statement, prove_statement, refute_statement}
 use Rattle.text_lines.specs.declared.statement.LineRead.{LineRead}
-use Rattle.workspace.specs.Views.{asker_of, is_refute, reference_of, sorted_params}
-use Rattle.workspace.specs.declared.declared.Asked.{Asked}
-use Rattle.workspace.specs.declared.declared.QuestionEntry.{QuestionEntry}
+use Rattle.text_tables.specs.Views.{asker_of, is_refute, reference_of, sorted_params}
+use Rattle.text_tables.specs.declared.declared.Asked.{Asked}
+use Rattle.text_tables.specs.declared.declared.QuestionEntry.{QuestionEntry}
 use Rattle.text_parser.specs.BareLines.{sorted_param}
 
 -- ---- the parts of a line; nothing is said of a line without such a part

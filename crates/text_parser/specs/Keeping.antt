@@ -3,10 +3,10 @@ use Rattle.std.specs.Prelude.{◌≡◌, List, [], ◌∷◌, ◌++◌, map, Som
 use Rattle.type_terms.specs.Promised.Trees.{Trees}
 use Rattle.text_language.specs.Lowering.{Meanings}
 use Rattle.text_names.specs.Resolved.{ResolvedCell}
-use Rattle.workspace.specs.TermCells.{behind_cells}
-use Rattle.workspace.specs.Made.{StackPart, parts_of, CellsHeld}
-use Rattle.workspace.specs.Views.{cells_of}
-use Rattle.workspace.specs.declared.cell.TermCell.{TermCell}
+use Rattle.text_tables.specs.TermCells.{behind_cells}
+use Rattle.text_tables.specs.Made.{StackPart, parts_of, CellsHeld}
+use Rattle.text_tables.specs.Views.{cells_of}
+use Rattle.text_tables.specs.declared.cell.TermCell.{TermCell}
 use Rattle.text_parser.specs.Making.{Makes, term_of}
 
 -- put on a stack one after the other

@@ -21,11 +21,11 @@ use Rattle.text_lines.specs.declared.parts.LinePart as places
 use Rattle.text_names.specs.Found.{Resolves}
 use Rattle.text_names.specs.Machine.{Sight, seen_items, params}
 use Rattle.text_names.specs.declared.parts.ResolvedPart.{ResolvedPart}
-use Rattle.workspace.specs.TermCells.{trees_of}
-use Rattle.workspace.specs.Made.{StackPart, AreMade, ReferenceMade, ReferencesMade, type_part, is_type}
-use Rattle.workspace.specs.Views.{cells_of, reference_of}
-use Rattle.workspace.specs.declared.cell.TermCell.{TermCell}
-use Rattle.workspace.specs.declared.declared.ReferenceCells.{ReferenceCells}
+use Rattle.text_tables.specs.TermCells.{trees_of}
+use Rattle.text_tables.specs.Made.{StackPart, AreMade, ReferenceMade, ReferencesMade, type_part, is_type}
+use Rattle.text_tables.specs.Views.{cells_of, reference_of}
+use Rattle.text_tables.specs.declared.cell.TermCell.{TermCell}
+use Rattle.text_tables.specs.declared.declared.ReferenceCells.{ReferenceCells}
 use Rattle.text_parser.specs.Keeping.{PutsTrees}
 use Rattle.text_parser.specs.Laws.{BoundFits, ClauseFits, AllOf}
 use Rattle.text_parser.specs.Meant.{FewNames, NumbersFit}

@@ -7,7 +7,7 @@ use Rattle.text_language.specs.Uses.{type_uses, types_uses, bound_uses}
 use Rattle.text_language.specs.Promised.Faults.{with_own}
 use Rattle.text_language.specs.Faults.{fault_of}
 use Rattle.text_lines.specs.Faultless.{UsesFit}
-use Rattle.workspace.specs.Numbered.{IsNumbered, IsFew}
+use Rattle.text_tables.specs.Numbered.{IsNumbered, IsFew}
 use Rattle.text_parser.specs.Meant.{NumbersFit}
 
 abbrev pub AllOf : {T : Type 0} → (T → Type 0) → List T → Type 0

@@ -20,4 +20,4 @@ pub mod Behind
 pub use Rattle.text_language.specs as TextLanguage
 pub use Rattle.text_names.specs as TextNames
 pub use Rattle.type_terms.specs as TypeTerms
-pub use Rattle.workspace.specs as Workspace
+pub use Rattle.text_tables.specs as TextTables

@@ -7,8 +7,8 @@ use Rattle.type_terms.specs.declared.TheConstants.{MAX_INDEX}
 use Rattle.text_language.specs.Lowering.{Meanings, place_among, variable_label}
 use Rattle.text_names.specs.Resolved.{Region, static_region, param_region, bound_region, ResolvedCell, node_cell, param_cell, variable_cell, lifetime_cell, reference_cell}
 use Rattle.text_names.specs.Standing.{first_of_sort, written_region_label}
-use Rattle.workspace.specs.TermCells as term
-use Rattle.workspace.specs.Made.{StackPart, type_part, const_part, lifetime_part, principal_part, auto_part, is_type, is_const, is_lifetime_on_stack, is_arg, off, off_autos, off_principal, putting}
+use Rattle.text_tables.specs.TermCells as term
+use Rattle.text_tables.specs.Made.{StackPart, type_part, const_part, lifetime_part, principal_part, auto_part, is_type, is_const, is_lifetime_on_stack, is_arg, off, off_autos, off_principal, putting}
 
 abbrev pub IsSmall : ℕ → Type 0
 IsSmall n = n < MAX_INDEX

@@ -9,10 +9,10 @@ use Rattle.text_names.specs.Machine.{Sight, seen_items, params}
 use Rattle.text_names.specs.Resolved.{Region, ResolvedCell}
 use Rattle.text_names.specs.Standing.{first_of_sort, written_region_label}
 use Rattle.text_names.specs.Views.{variable_in}
-use Rattle.workspace.specs.TermCells.{node_cell}
-use Rattle.workspace.specs.Made.{StackPart, type_part, parts_behind, CellHeld}
-use Rattle.workspace.specs.Views.{cell_of}
-use Rattle.workspace.specs.declared.cell.TermCell.{TermCell}
+use Rattle.text_tables.specs.TermCells.{node_cell}
+use Rattle.text_tables.specs.Made.{StackPart, type_part, parts_behind, CellHeld}
+use Rattle.text_tables.specs.Views.{cell_of}
+use Rattle.text_tables.specs.declared.cell.TermCell.{TermCell}
 use Rattle.text_parser.specs.Making.{RegionSmall, LabelMakes, CellMakes, term_of}
 use Rattle.text_parser.specs.declared.numbering.Numbering.{Numbering}
 use Rattle.text_parser.specs.declared.numbering.Numbering.TheVariants.{Item, Question}

@@ -5,10 +5,10 @@ use Rattle.text_language.specs.Adding.{added}
 use Rattle.text_language.specs.Text.{LineGives}
 use Rattle.text_lines.specs.declared.statement.LineRead.{LineRead}
 use Rattle.text_names.specs.FaultNumbers.{fault_number}
-use Rattle.workspace.specs.Made.{ReferenceMade, ReferencesMade}
-use Rattle.workspace.specs.Tables.{with_question}
-use Rattle.workspace.specs.Views.{asker_of, question_of}
-use Rattle.workspace.specs.declared.declared.QuestionEntry.{QuestionEntry}
+use Rattle.text_tables.specs.Made.{ReferenceMade, ReferencesMade}
+use Rattle.text_tables.specs.Tables.{with_question}
+use Rattle.text_tables.specs.Views.{asker_of, question_of}
+use Rattle.text_tables.specs.declared.declared.QuestionEntry.{QuestionEntry}
 use Rattle.text_parser.specs.Declaring.{FindsFault, AddsLine}
 use Rattle.text_parser.specs.Entries.{OfRead}
 use Rattle.text_parser.specs.declared.query_line.QueryLine.{QueryLine}

@@ -3,16 +3,16 @@ ghost use Rattle.std.specs.Prelude.{◌≡◌, ◌+◌, ◌<◌, ◌^◌};
 ghost use Rattle.type_terms.specs.Kinds.{is_mut};
 ghost use Rattle.text_lines.specs.TokenViews.{primitive_label};
 ghost use Rattle.text_names.specs.Views.{label_in, resolved_in};
-ghost use Rattle.workspace.specs.Made.{CellHeld};
+ghost use Rattle.text_tables.specs.Made.{CellHeld};
 ghost use Rattle.text_parser.specs.Making.{next_autos};
 ghost use Rattle.text_parser.specs.Numbering.{IsLeafCell, LabelStands};
 
 use crate::small::{number_of, small, trait_id};
 use text_lines::Primitive;
 use text_names::{NodeLabel, ResolvedCell};
+use text_tables::TermCell;
 use type_terms::AdtId;
 use type_terms::kinds::{ConstKind, IntTy, Mutability, UintTy};
-use workspace::TermCell;
 
 /// Whether a reference or pointer is `mut`.
 pub(crate) fn mutability(m: bool) -> Mutability

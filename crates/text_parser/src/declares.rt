@@ -5,13 +5,13 @@ ghost use Rattle.text_language.specs.Promised.Declarations.{Declarations};
 ghost use Rattle.text_language.specs.Declarations.{nothing_declared};
 ghost use Rattle.text_parser.specs.Declaring.{IsRead, FindsFault, HandsOnFound, IsFaultless, IsFoundOf, AddsLine};
 ghost use Rattle.text_names.specs.Judged.{fault_in};
-ghost use Rattle.workspace.specs.Numbered.{IsFew};
+ghost use Rattle.text_tables.specs.Numbered.{IsFew};
 
 use crate::lines::TEXT_LIMIT;
 use std::alloc::{AllocError, Global};
 use text_lines::LineRead;
 use text_names::{JudgedLine, LineFound};
-use workspace::ENTRY_LIMIT;
+use text_tables::ENTRY_LIMIT;
 
 /// What the lines of a text are declared in. It knows what is declared so far, judges the next line by that, and declares the line if it
 /// has no fault.

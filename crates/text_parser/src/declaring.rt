@@ -3,9 +3,9 @@
 ghost use Rattle.std.specs.Prelude.{◌≡◌, ◌<◌, ◌≤◌, length, OnOk};
 ghost use Rattle.text_lines.specs.Views.{params_in, statement_of};
 ghost use Rattle.text_parser.specs.Declaring.{IsFaultless, IsFoundOf, AddsLine};
-ghost use Rattle.workspace.specs.Numbered.{IsFew};
-ghost use Rattle.workspace.specs.Tables.{declared, IsConsistent};
-ghost use Rattle.workspace.specs.Views.{asker_of};
+ghost use Rattle.text_tables.specs.Numbered.{IsFew};
+ghost use Rattle.text_tables.specs.Tables.{declared, IsConsistent};
+ghost use Rattle.text_tables.specs.Views.{asker_of};
 ghost use Rattle.text_parser.specs.Entries.{SaysStruct, SaysTrait, SaysImpl, IsAsking};
 
 use crate::entries::{
@@ -17,7 +17,7 @@ use crate::so_far::SoFar;
 use std::alloc::{AllocError, Global};
 use text_lines::{LineRead, Param, Statement};
 use text_names::LineFound;
-use workspace::{Asked, ENTRY_LIMIT, Tables};
+use text_tables::{Asked, ENTRY_LIMIT, Tables};
 
 /// What precedes the fields of a struct.
 #[derive(Clone, Copy)]

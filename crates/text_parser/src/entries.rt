@@ -2,11 +2,11 @@
 ghost use Rattle.std.specs.Prelude.{◌≡◌, ◌≤◌, length, map, IfOk};
 ghost use Rattle.text_lines.specs.Views.{params_in, statement_of};
 ghost use Rattle.text_parser.specs.Declaring.{IsRead, IsFaultless, IsFoundOf};
-ghost use Rattle.workspace.specs.Made.{AreMade, ReferenceMade, ReferencesMade, is_type};
-ghost use Rattle.workspace.specs.Numbered.{IsFew};
-ghost use Rattle.workspace.specs.Tables.{declared, IsConsistent};
-ghost use Rattle.workspace.specs.TermCells.{trees_of};
-ghost use Rattle.workspace.specs.Views.{cells_of, reference_of};
+ghost use Rattle.text_tables.specs.Made.{AreMade, ReferenceMade, ReferencesMade, is_type};
+ghost use Rattle.text_tables.specs.Numbered.{IsFew};
+ghost use Rattle.text_tables.specs.Tables.{declared, IsConsistent};
+ghost use Rattle.text_tables.specs.TermCells.{trees_of};
+ghost use Rattle.text_tables.specs.Views.{cells_of, reference_of};
 ghost use Rattle.text_parser.specs.Entries.{OfRead, AreFields, AreBoundsOfLine, IsMain, AreClauses, IsStruct, IsTrait, IsImpl, IsAsking, IsQuestionEntry};
 ghost use Rattle.text_parser.specs.Sights.{IsSightOfRead, sight_of};
 
@@ -19,7 +19,7 @@ use crate::so_far::SoFar;
 use std::alloc::{AllocError, Global};
 use text_lines::{LineRead, Param};
 use text_names::{LineFound, each_once};
-use workspace::{Asked, ENTRY_LIMIT, QuestionEntry, ReferenceCells, Tables, TermCell};
+use text_tables::{Asked, ENTRY_LIMIT, QuestionEntry, ReferenceCells, Tables, TermCell};
 
 /// The header and the where-clauses of an impl's line, as the tables store them.
 #[derive(Drop)]

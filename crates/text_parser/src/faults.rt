@@ -7,8 +7,8 @@ ghost use Rattle.text_lines.specs.Lines.{ReadsLine};
 ghost use Rattle.text_names.specs.FaultNumbers.{fault_number};
 ghost use Rattle.text_names.specs.Judged.{fault_in};
 ghost use Rattle.text_parser.specs.Declaring.{HandsOnFound};
-ghost use Rattle.workspace.specs.Numbered.{IsFew};
-ghost use Rattle.workspace.specs.Tables.{declared, IsConsistent};
+ghost use Rattle.text_tables.specs.Numbered.{IsFew};
+ghost use Rattle.text_tables.specs.Tables.{declared, IsConsistent};
 ghost use Rattle.text_parser.specs.Sights.{HasReadLine};
 
 use crate::line_tables::LineTables;
@@ -16,7 +16,7 @@ use crate::so_far::SoFar;
 use std::alloc::{AllocError, Global};
 use text_lines::LineRead;
 use text_names::JudgedLine;
-use workspace::{ENTRY_LIMIT, Tables};
+use text_tables::{ENTRY_LIMIT, Tables};
 
 /// The fault of a line that was read, after the lines that the tables hold: of all faults that apply, the one with the smallest number. For
 /// a line without a fault, what was found of it: its types and bounds with all names looked up.

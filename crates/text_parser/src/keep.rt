@@ -9,7 +9,7 @@ use crate::cell::next_autos;
 use crate::numbering::Numbers;
 use std::alloc::AllocError;
 use text_names::ResolvedCell;
-use workspace::TermCell;
+use text_tables::TermCell;
 
 /// Appends the cells that are stored for these.
 pub(crate) fn push_cells<'a>(

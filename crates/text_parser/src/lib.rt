@@ -12,6 +12,7 @@ mod declaring;
 mod entries;
 mod fault;
 mod faults;
+mod filled_tables;
 mod form;
 mod keep;
 mod line_tables;
@@ -25,7 +26,6 @@ mod query_line;
 mod small;
 mod so_far;
 mod text;
-mod text_tables;
 
 pub use declares::Declares;
 pub use declaring::declare;
@@ -38,12 +38,12 @@ pub use parsing::parse;
 pub use parts::{bound_cells, clause_cells, clauses_cells, field_cells};
 pub use query_line::{QueryLine, read_query};
 pub use text::read_text;
-use workspace::ENTRY_LIMIT;
+use text_tables::ENTRY_LIMIT;
 
 // The crates below whose names the crates above need too: these list this crate alone.
 pub use text_names;
+pub use text_tables;
 pub use type_terms;
-pub use workspace;
 
 /// What the types and bounds of a line without a fault use fits, part by part.
 pub fn faultless_parts()

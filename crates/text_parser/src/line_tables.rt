@@ -8,7 +8,7 @@ ghost use Rattle.text_language.specs.Uses.{params_of};
 ghost use Rattle.text_lines.specs.Says.{params_said};
 ghost use Rattle.text_lines.specs.Statement.{param_list};
 ghost use Rattle.text_lines.specs.Views.{statement_of};
-ghost use Rattle.workspace.specs.Views.{known_of, sorts_of};
+ghost use Rattle.text_tables.specs.Views.{known_of, sorts_of};
 ghost use Rattle.text_parser.specs.BareLines.{bare_line, params_from};
 
 use crate::own_items::{with_struct, with_trait};
@@ -17,8 +17,8 @@ use crate::so_far::SoFar;
 use std::alloc::{AllocError, Global};
 use text_lines::Statement;
 use text_names::{LineNames, Names};
+use text_tables::{Known, ParamKind};
 use type_terms::CrateId;
-use workspace::{Known, ParamKind};
 
 /// What is declared before a line, with the line's statement. The line's own item and its parameters are known too. Nothing is added to the
 /// tables for a line that may be faulty.

@@ -4,8 +4,8 @@ ghost use Rattle.type_terms.specs.Promised.Label.{of_type, of_const, of_lifetime
 ghost use Rattle.type_terms.specs.Promised.Trees.{is_sort};
 ghost use Rattle.type_terms.specs.Promised.Handles.{RegionHeld, region_label};
 ghost use Rattle.text_language.specs.Lowering.{Meanings, place_among};
-ghost use Rattle.workspace.specs.Made.{CellHeld, type_part, const_part};
-ghost use Rattle.workspace.specs.Views.{sort_of_kind};
+ghost use Rattle.text_tables.specs.Made.{CellHeld, type_part, const_part};
+ghost use Rattle.text_tables.specs.Views.{sort_of_kind};
 ghost use Rattle.text_names.specs.Resolved.{param_cell, variable_cell, lifetime_cell, reference_cell};
 ghost use Rattle.text_names.specs.Views.{resolved_in, region_in, variable_in};
 ghost use Rattle.text_names.specs.Machine.{Sight};
@@ -15,10 +15,10 @@ ghost use Rattle.text_parser.specs.Numbering.{meanings, names_of_sort, parameter
 use crate::cell::{mutability, node_cell};
 use crate::small::{small, small_sum};
 use text_names::{Names, ResolvedCell, Variable};
+use text_tables::{ParamKind, TermCell};
 use type_terms::kinds::ConstKind;
 use type_terms::number::{BoundVar, BoundVarIndexKind, ConstVid, DebruijnIndex, TyVid};
 use type_terms::region::{Region, RegionKind};
-use workspace::{ParamKind, TermCell};
 
 /// What the parameters and the variables of a line stand for.
 #[derive(Clone, Copy)]

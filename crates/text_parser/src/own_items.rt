@@ -1,10 +1,10 @@
 //! What a name stands for if the line itself declares a struct or a trait. A crate hides a struct of its name, and a struct hides a trait.
 ghost use Rattle.std.specs.Prelude.{◌≡◌};
 ghost use Rattle.std.specs.Option.{option_map};
-ghost use Rattle.workspace.specs.Views.{known_of};
+ghost use Rattle.text_tables.specs.Views.{known_of};
 ghost use Rattle.text_parser.specs.OwnItems.{known_with_struct, known_with_trait};
 
-use workspace::Known;
+use text_tables::Known;
 
 /// What was known before, or the line's own struct, which hides a trait.
 pub(crate) fn with_struct<'k>(

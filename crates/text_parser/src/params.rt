@@ -3,13 +3,13 @@ ghost use Rattle.std.specs.Prelude.{◌≡◌, ◌∷◌, [], length, map, IfOk,
 ghost use Rattle.text_lines.specs.Views.{param_of, params_in};
 ghost use Rattle.text_names.specs.LookUps.{place_in};
 ghost use Rattle.text_names.specs.Views.{variable_in};
-ghost use Rattle.workspace.specs.Views.{sort_of_kind, sorts_of, sorted_params};
+ghost use Rattle.text_tables.specs.Views.{sort_of_kind, sorts_of, sorted_params};
 ghost use Rattle.text_parser.specs.BareLines.{sort_of_param, sorted_param, name_of_sort, names_of_sort};
 
 use std::alloc::{AllocError, Global};
 use text_lines::Param;
 use text_names::Variable;
-use workspace::ParamKind;
+use text_tables::ParamKind;
 
 /// The kind of a parameter.
 fn kind_of(param: &Param<'_>) -> ParamKind
@@ -39,13 +39,13 @@ pub(crate) fn kinds_of(alloc: Global, params: &[Param<'_>]) -> Result<Vec<ParamK
 pub(crate) fn named_params(
     alloc: Global,
     params: &[Param<'_>],
-) -> Result<Vec<workspace::Param>, AllocError>
+) -> Result<Vec<text_tables::Param>, AllocError>
     ensures { IfOk result (λ named. sorted_params named.items ≡ map sorted_param (params_in params.now)) }
 {
     let mut named = Vec::new(alloc);
     let mut rest = params;
     while let [param, behind @ ..] = rest {
-        named.push(workspace::Param {
+        named.push(text_tables::Param {
             name: Vec::from_slice(alloc, param.name())?,
             kind: kind_of(param),
         })?;
@@ -58,13 +58,13 @@ pub(crate) fn named_params(
 pub(crate) fn named_variables(
     alloc: Global,
     variables: &[Variable<'_>],
-) -> Result<Vec<workspace::Param>, AllocError>
+) -> Result<Vec<text_tables::Param>, AllocError>
     ensures { IfOk result (λ named. sorted_params named.items ≡ map variable_in variables.now) }
 {
     let mut named = Vec::new(alloc);
     let mut rest = variables;
     while let [variable, behind @ ..] = rest {
-        named.push(workspace::Param {
+        named.push(text_tables::Param {
             name: Vec::from_slice(alloc, variable.name)?,
             kind: variable.sort,
         })?;

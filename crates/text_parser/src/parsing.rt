@@ -6,10 +6,10 @@ ghost use Rattle.text_parser.specs.Outcomes.{IsTextError};
 ghost use Rattle.text_parser.specs.Parsing.{IsFaultAt};
 
 use crate::fault::TextError;
+use crate::filled_tables::TextTables;
 use crate::text::read_text;
-use crate::text_tables::TextTables;
 use std::alloc::Global;
-use workspace::Workspace;
+use text_tables::Workspace;
 
 /// Reads a text: what it declares and queries, after `core`, in its order.
 ///

@@ -4,7 +4,7 @@ ghost use Rattle.type_terms.specs.Promised.Label.{of_type, param};
 ghost use Rattle.type_terms.specs.Promised.Trees.{leaf};
 ghost use Rattle.text_language.specs.Lowering.{Meanings};
 ghost use Rattle.text_names.specs.Machine.{Sight};
-ghost use Rattle.workspace.specs.Made.{type_part};
+ghost use Rattle.text_tables.specs.Made.{type_part};
 ghost use Rattle.text_parser.specs.Keeping.{PutsTrees};
 ghost use Rattle.text_parser.specs.Kept.{HasSmallNumbers, MeansFields, MeansClause, MeansClauses, MeansBounds, KeepsType, MeansBound, MeansReference};
 ghost use Rattle.text_parser.specs.Numbering.{IsNumbersOf};
@@ -14,7 +14,7 @@ use crate::numbering::{Numbering, Numbers};
 use crate::small::trait_id;
 use std::alloc::{AllocError, Global};
 use text_names::{Names, ResolvedPart};
-use workspace::{ReferenceCells, TermCell};
+use text_tables::{ReferenceCells, TermCell};
 
 /// Self of a trait, which is its parameter 0.
 fn self_cells(alloc: Global) -> Result<Vec<TermCell>, AllocError>

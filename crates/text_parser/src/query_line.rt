@@ -4,9 +4,9 @@ ghost use Rattle.text_lines.specs.Views.{params_in, statement_of};
 ghost use Rattle.text_parser.specs.Declaring.{IsRead, IsFaultless, IsFoundOf};
 ghost use Rattle.text_parser.specs.Entries.{IsAsking};
 ghost use Rattle.text_parser.specs.Queries.{IsQueryLine, IsQueryRead};
-ghost use Rattle.workspace.specs.Numbered.{IsFew};
-ghost use Rattle.workspace.specs.Tables.{declared, IsConsistent};
-ghost use Rattle.workspace.specs.Views.{asker_of};
+ghost use Rattle.text_tables.specs.Numbered.{IsFew};
+ghost use Rattle.text_tables.specs.Tables.{declared, IsConsistent};
+ghost use Rattle.text_tables.specs.Views.{asker_of};
 
 use crate::entries::question_entry;
 use crate::faults::judge_line;
@@ -16,7 +16,7 @@ use crate::so_far::SoFar;
 use std::alloc::{AllocError, Global};
 use text_lines::{LineRead, Param, Statement};
 use text_names::{FaultKind, JudgedLine, LineFound};
-use workspace::{Asked, ENTRY_LIMIT, QuestionEntry, Tables};
+use text_tables::{Asked, ENTRY_LIMIT, QuestionEntry, Tables};
 
 /// What a line is that is asked behind the lines of a text.
 #[derive(Drop)]

@@ -6,12 +6,12 @@ ghost use Rattle.text_language.specs.Promised.Declarations.{known, last_crate, l
 ghost use Rattle.text_language.specs.Promised.Faults.{last_items};
 ghost use Rattle.text_language.specs.Faults.{number_of_crate};
 ghost use Rattle.text_language.specs.Lowering.{crate_number};
-ghost use Rattle.workspace.specs.Numbered.{IsFew};
-ghost use Rattle.workspace.specs.Views.{known_of};
+ghost use Rattle.text_tables.specs.Numbered.{IsFew};
+ghost use Rattle.text_tables.specs.Views.{known_of};
 
 use std::marker::Model;
+use text_tables::{ENTRY_LIMIT, Known, Tables};
 use type_terms::{AdtId, CrateId, TraitId};
-use workspace::{ENTRY_LIMIT, Known, Tables};
 
 /// The tables of the lines before a line, which agree with what they declare. Contracts speak of the declarations.
 #[derive(Drop)]
@@ -21,9 +21,9 @@ pub(crate) struct SoFar<'w> {
 
 impl<'w> Model for SoFar<'w> {
     ghost use Rattle.text_language.specs.Promised.Declarations.{Declarations};
-    ghost use Rattle.workspace.specs.Numbered.{IsFew};
-    ghost use Rattle.workspace.specs.Stored.{declarations_code};
-    ghost use Rattle.workspace.specs.Tables.{declared, IsConsistent};
+    ghost use Rattle.text_tables.specs.Numbered.{IsFew};
+    ghost use Rattle.text_tables.specs.Stored.{declarations_code};
+    ghost use Rattle.text_tables.specs.Tables.{declared, IsConsistent};
 
     ghost Value = { Declarations };
 
@@ -35,7 +35,7 @@ impl<'w> Model for SoFar<'w> {
 }
 
 impl<'w> SoFar<'w> {
-    ghost use Rattle.workspace.specs.Tables.{declared, IsConsistent};
+    ghost use Rattle.text_tables.specs.Tables.{declared, IsConsistent};
 
     /// The tables as what is declared so far. They hold no more than a text may declare.
     pub fn new(tables: &'w Tables) -> Self

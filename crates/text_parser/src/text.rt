@@ -3,7 +3,7 @@ ghost use Rattle.std.specs.Prelude.{◌≡◌, ◌≤◌, length, IfOk, IfErr, O
 ghost use Rattle.text_language.specs.Text.{LinesGive, lines_of, TextGives};
 ghost use Rattle.text_parser.specs.Declaring.{IsRead, FindsFault, AddsLine};
 ghost use Rattle.text_parser.specs.Outcomes.{TakesLine, AreRefused, IsTextError};
-ghost use Rattle.workspace.specs.Numbered.{IsFew};
+ghost use Rattle.text_tables.specs.Numbered.{IsFew};
 
 use crate::declares::Declares;
 use crate::fault::{TextError, TextFault};
@@ -12,7 +12,7 @@ use crate::lines::{TEXT_LIMIT, long_line, split_line};
 use std::alloc::{AllocError, Global};
 use text_lines::LineRead;
 use text_names::{FaultKind, JudgedLine};
-use workspace::ENTRY_LIMIT;
+use text_tables::ENTRY_LIMIT;
 
 /// `core` has fewer of anything.
 const CORE_LIMIT: usize = 50;

@@ -9,8 +9,8 @@ use Rattle.std.specs.Fmt.{decimal}
 use Rattle.text_language.specs.Output.{place_in, unknown_text}
 use Rattle.text_language.specs.Promised.Declarations.{Variable}
 use Rattle.text_language.specs.Names.{variables_of_kind, text_at, param_texts}
-use Rattle.workspace.specs.Views.{sort_of_kind, sorted_params, variable_of}
-use Rattle.workspace.specs.declared.declared.Param.{Param}
+use Rattle.text_tables.specs.Views.{sort_of_kind, sorted_params, variable_of}
+use Rattle.text_tables.specs.declared.declared.Param.{Param}
 use Rattle.type_terms.proofs.NumberBasics.{plus-one as one-up}
 
 abbrev pub of_sort : Sort → List Param → List Param

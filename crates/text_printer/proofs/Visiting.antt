@@ -8,9 +8,9 @@ use Rattle.type_terms.specs.Promised.Trees.{Trees, none, tree}
 use Rattle.type_terms.specs.Visits.{Visits, ended, passed, broken, entered, broken_below}
 use Rattle.text_language.specs.Promised.Declarations.{Question}
 use Rattle.text_language.specs.Names.{variables_of_kind, with_free}
-use Rattle.workspace.specs.Views.{variable_of, question_of}
-use Rattle.workspace.specs.declared.declared.Param.{Param}
-use Rattle.workspace.specs.declared.declared.QuestionEntry.{QuestionEntry}
+use Rattle.text_tables.specs.Views.{variable_of, question_of}
+use Rattle.text_tables.specs.declared.declared.Param.{Param}
+use Rattle.text_tables.specs.declared.declared.QuestionEntry.{QuestionEntry}
 use Rattle.text_printer.specs.Called.{unknowns_of}
 use Rattle.text_printer.specs.Listing.{is_inference_variable, Lists}
 use Rattle.text_printer.specs.declared.free.ListsFree.{ListsFree}

@@ -8,10 +8,10 @@ use Rattle.text_language.specs.Names.{valued, own_from}
 use Rattle.type_terms.specs.Promised.Handles.{arg_trees, ArgHeld}
 use Rattle.type_terms.specs.Promised.Handles.{Entry}
 use Rattle.type_terms.specs.declared.kinds.GenericArgKind.{GenericArgKind}
-use Rattle.workspace.specs.Views.{sort_of_kind, variable_of}
-use Rattle.workspace.specs.declared.cell.ParamKind.{ParamKind}
-use Rattle.workspace.specs.declared.cell.ParamKind.TheVariants as kinds
-use Rattle.workspace.specs.declared.declared.Param.{Param}
+use Rattle.text_tables.specs.Views.{sort_of_kind, variable_of}
+use Rattle.text_tables.specs.declared.cell.ParamKind.{ParamKind}
+use Rattle.text_tables.specs.declared.cell.ParamKind.TheVariants as kinds
+use Rattle.text_tables.specs.declared.declared.Param.{Param}
 use Rattle.text_printer.specs.declared.listed.Listed.{Listed}
 use Rattle.text_printer.specs.declared.listed.Counts.{Counts}
 

@@ -6,7 +6,7 @@ use Rattle.type_terms.specs.Visits.{IsBound}
 use Rattle.type_terms.specs.declared.visit.Seen.{Seen}
 use Rattle.type_terms.specs.declared.visit.Seen.TheVariants.{Break, Enter, Pass}
 use Rattle.text_language.specs.Names.{with_free}
-use Rattle.workspace.specs.Views.{question_of}
+use Rattle.text_tables.specs.Views.{question_of}
 use Rattle.text_printer.specs.Called.{unknowns_of}
 use Rattle.text_printer.specs.declared.free.ListsFree.{ListsFree}
 

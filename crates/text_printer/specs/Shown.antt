@@ -5,8 +5,8 @@ use Rattle.type_terms.specs.Promised.Label.{Sort}
 use Rattle.text_language.specs.Promised.Declarations.{Declarations}
 use Rattle.text_language.specs.Names.{variables_of_kind, struct_text, text_at, trait_text}
 use Rattle.text_language.specs.Output.{Names}
-use Rattle.workspace.specs.Views.{param_names, variable_of}
-use Rattle.workspace.specs.declared.declared.Param.{Param}
+use Rattle.text_tables.specs.Views.{param_names, variable_of}
+use Rattle.text_tables.specs.declared.declared.Param.{Param}
 
 -- An inference variable has the name of the variable that it stands for. It is `_` if it stands for none.
 abbrev pub shown_unknown : List Param → Sort → ℕ → List ℕ

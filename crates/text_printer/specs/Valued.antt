@@ -3,7 +3,7 @@ use Rattle.type_terms.specs.Promised.Trees.{Trees}
 use Rattle.text_language.specs.Promised.Declarations.{Variable}
 use Rattle.text_language.specs.Names.{question_names}
 use Rattle.text_language.specs.Output as output
-use Rattle.workspace.specs.Views.{question_of}
+use Rattle.text_tables.specs.Views.{question_of}
 use Rattle.text_printer.specs.Called.{unknowns_of}
 use Rattle.text_printer.specs.declared.question.QuestionNames.{QuestionNames}
 

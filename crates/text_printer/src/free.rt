@@ -8,7 +8,7 @@ ghost use Rattle.text_language.specs.Output.{is_in};
 ghost use Rattle.text_printer.specs.Kinds.{sort_of_kind};
 ghost use Rattle.type_terms.specs.Promised.Handles.{Has, consts, trees_at};
 ghost use Rattle.type_terms.specs.Promised.Handles.{arg_trees, ArgHeld};
-ghost use Rattle.workspace.specs.Views.{question_of};
+ghost use Rattle.text_tables.specs.Views.{question_of};
 ghost use Rattle.text_printer.specs.Called.{unknowns_of};
 ghost use Rattle.text_printer.specs.Listed.{listed_of, ListHeld};
 
@@ -18,12 +18,12 @@ use crate::params::nth_of_kind;
 use crate::question::Unknown;
 use std::alloc::{AllocError, Global};
 use std::ops::ControlFlow;
+use text_tables::QuestionEntry;
 use type_terms::binders::Binders;
 use type_terms::interner::Interner;
 use type_terms::kinds::{Const, ConstKind, GenericArgKind, Ty, TyKind};
 use type_terms::region::Region;
 use type_terms::visit::{Seen, TypeVisitor, visit_ty};
-use workspace::QuestionEntry;
 
 /// Whether an inference variable stands for a variable of the query.
 fn is_own(question: &QuestionEntry, kind: TermKind, index: u32) -> bool

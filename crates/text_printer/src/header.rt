@@ -5,8 +5,8 @@ use crate::items::{push_struct_name, push_trait_name};
 use crate::names::{PrintNames, TermKind};
 use crate::params::{nth_of_kind, push_name};
 use std::alloc::AllocError;
+use text_tables::{Param, Workspace};
 use type_terms::{AdtId, TraitId};
-use workspace::{Param, Workspace};
 
 /// The names in the header of a refused impl. An inference variable has the name of the impl's parameter that it stands for. Those of one
 /// kind count from 0.
@@ -19,7 +19,7 @@ pub struct HeaderNames<'w> {
 
 impl<'w> PrintNames for HeaderNames<'w> {
     ghost use Rattle.text_language.specs.Names.{header_names};
-    ghost use Rattle.workspace.specs.Views.{sorted_params};
+    ghost use Rattle.text_tables.specs.Views.{sorted_params};
 
     ghost names = { λ h. header_names h.workspace.now (sorted_params h.params.now) };
 

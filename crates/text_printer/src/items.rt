@@ -3,8 +3,8 @@ ghost use Rattle.std.specs.Prelude.{◌≡◌, ◌++◌, OnOk};
 ghost use Rattle.text_language.specs.Names.{struct_text, trait_text};
 
 use std::alloc::AllocError;
+use text_tables::Workspace;
 use type_terms::{AdtId, TraitId};
-use workspace::Workspace;
 
 /// Appends the name of a struct as the text writes it. If there is no struct with this number, it appends nothing. Fails only if memory is
 /// refused.

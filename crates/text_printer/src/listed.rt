@@ -5,14 +5,14 @@ ghost use Rattle.type_terms.specs.Promised.Trees.{leaf};
 ghost use Rattle.type_terms.specs.Codes.{same};
 ghost use Rattle.type_terms.specs.Promised.Handles.{region_trees, arg_trees, ArgHeld, ArgsHeld};
 ghost use Rattle.type_terms.specs.Promised.Handles.{Has, types, consts, trees_at};
-ghost use Rattle.workspace.specs.Views.{sort_of_kind};
+ghost use Rattle.text_tables.specs.Views.{sort_of_kind};
 ghost use Rattle.text_printer.specs.Listed.{listed_of, ListHeld, own_number, counted, valued_one, valued_of};
 
 use std::alloc::{AllocError, Global};
+use text_tables::{Param, ParamKind};
 use type_terms::interner::Interner;
 use type_terms::kinds::{Const, ConstKind, GenericArgKind, Ty, TyKind};
 use type_terms::region::{Region, RegionKind};
-use workspace::{Param, ParamKind};
 
 /// A variable of a query with its value.
 #[derive(Clone, Copy)]

@@ -4,7 +4,7 @@ ghost use Rattle.text_language.specs.Names as names;
 ghost use Rattle.text_language.specs.Output.{type_text};
 ghost use Rattle.text_printer.specs.Answers.{value_of};
 ghost use Rattle.type_terms.specs.Promised.Handles.{arg_trees, ArgHeld, ArgsHeld};
-ghost use Rattle.workspace.specs.Views.{question_of};
+ghost use Rattle.text_tables.specs.Views.{question_of};
 ghost use Rattle.text_printer.specs.Listed.{listed_of, ListHeld};
 ghost use Rattle.text_printer.specs.Valued.{printed_names, text_by};
 
@@ -14,9 +14,9 @@ use crate::listed::{Listed, listed_values};
 use crate::printer::{print_const, print_type};
 use crate::question::QuestionNames;
 use std::alloc::{AllocError, Global};
+use text_tables::{QuestionEntry, Workspace};
 use type_terms::interner::Interner;
 use type_terms::kinds::GenericArgKind;
-use workspace::{QuestionEntry, Workspace};
 
 /// The text of a value. Lifetimes have none.
 fn value_term(

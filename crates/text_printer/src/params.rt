@@ -3,11 +3,11 @@ ghost use Rattle.std.specs.Prelude.{◌≡◌, ◌++◌, slice_get, filter, OnOk
 ghost use Rattle.std.specs.Option.{option_map};
 ghost use Rattle.type_terms.specs.Promised.Trees.{is_sort};
 ghost use Rattle.text_printer.specs.Kinds as term;
-ghost use Rattle.workspace.specs.Views as param;
+ghost use Rattle.text_tables.specs.Views as param;
 
 use crate::names::TermKind;
 use std::alloc::AllocError;
-use workspace::{Param, ParamKind};
+use text_tables::{Param, ParamKind};
 
 fn is_of(kind: ParamKind, wanted: TermKind) -> bool
     ensures { result ≡ is_sort (param.sort_of_kind kind) (term.sort_of_kind wanted) }

@@ -4,15 +4,15 @@ ghost use Rattle.std.specs.Fmt.{decimal};
 ghost use Rattle.text_language.specs.Names.{text_at, question_unknown};
 ghost use Rattle.text_language.specs.Output.{place_in, unknown_text};
 ghost use Rattle.text_printer.specs.Kinds.{sort_of_kind};
-ghost use Rattle.workspace.specs.Views.{param_names, question_of};
+ghost use Rattle.text_tables.specs.Views.{param_names, question_of};
 ghost use Rattle.text_printer.specs.Called.{unknowns_of};
 
 use crate::items::{push_struct_name, push_trait_name};
 use crate::names::{PrintNames, TermKind};
 use crate::params::nth_of_kind;
 use std::alloc::AllocError;
+use text_tables::{Param, QuestionEntry, Workspace};
 use type_terms::{AdtId, TraitId};
-use workspace::{Param, QuestionEntry, Workspace};
 
 /// An inference variable, by its number among those of its kind.
 #[derive(Clone, Copy, PartialEq, Eq)]
@@ -75,7 +75,7 @@ fn push_name_at(out: &mut Vec<u8>, params: &[Param], place: u32) -> Result<(), A
 
 impl<'w> PrintNames for QuestionNames<'w> {
     ghost use Rattle.text_language.specs.Names.{question_names};
-    ghost use Rattle.workspace.specs.Views.{question_of};
+    ghost use Rattle.text_tables.specs.Views.{question_of};
     ghost use Rattle.text_printer.specs.Called.{unknowns_of};
 
     ghost names = { λ q. question_names q.workspace.now (question_of q.question.now) (unknowns_of q.free.now) };

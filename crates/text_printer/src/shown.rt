@@ -2,14 +2,14 @@
 
 ghost use Rattle.std.specs.Prelude.{◌≡◌, ◌++◌, OnOk, codes};
 ghost use Rattle.text_language.specs.Names.{text_at};
-ghost use Rattle.workspace.specs.Views.{param_names};
+ghost use Rattle.text_tables.specs.Views.{param_names};
 
 use crate::items::{push_struct_name, push_trait_name};
 use crate::names::{PrintNames, TermKind};
 use crate::params::nth_of_kind;
 use std::alloc::AllocError;
+use text_tables::{Param, Workspace};
 use type_terms::{AdtId, TraitId};
-use workspace::{Param, Workspace};
 
 /// The names in explanations. A parameter and a placeholder have the name of the parameter at their index, and an inference variable has
 /// that of the variable that it stands for. An inference variable that stands for none is `_`.

@@ -1,5 +1,5 @@
 use Rattle.std.proofs.Common.{◌∙◌}
-use Rattle.workspace.specs.Views.{sort_of_kind}
+use Rattle.text_tables.specs.Views.{sort_of_kind}
 use Rattle.text_names.specs.Machine.{params}
 use Rattle.text_names.specs.LookUps.{params_of_sort}
 use Rattle.text_names.proofs.Judged.{place-is, place-none}

@@ -1,5 +1,5 @@
 use Rattle.std.specs.Option.{option_map}
-use Rattle.workspace.specs.Views.{known_of}
+use Rattle.text_tables.specs.Views.{known_of}
 use Rattle.text_names.specs.Views.{label_in}
 use Rattle.text_names.specs.Machine.{seen_items, params}
 use Rattle.text_names.proofs.Meanings.{type-param, type-item}

@@ -1,4 +1,4 @@
-use Rattle.workspace.specs.Views.{sort_of_kind}
+use Rattle.text_tables.specs.Views.{sort_of_kind}
 use Rattle.text_names.proofs.Judged.{one_name}
 use Rattle.text_names.proofs.judge_use.name.Goals as goal
 

@@ -4,7 +4,7 @@ use Rattle.text_language.specs.Promised.Declarations.{known}
 use Rattle.text_language.specs.Uses.{trait_use, args_count, kinds_of_trait}
 use Rattle.text_lines.specs.Back.{count_above}
 use Rattle.text_names.specs.Machine.{WalkFrame, seen_items, findings, noting, args_inside}
-use Rattle.workspace.specs.Views.{sorts_of}
+use Rattle.text_tables.specs.Views.{sorts_of}
 use Rattle.text_names.specs.WalkViews.{frames_in}
 use Rattle.text_lines.proofs.Counting.{count-args}
 use Rattle.text_names.proofs.Resolving.{bound-resolved}

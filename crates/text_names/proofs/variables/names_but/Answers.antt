@@ -1,5 +1,5 @@
 use Rattle.std.proofs.Common.{◌≡◌, sym, ◌∙◌, arith, subst, map, drop}
-use Rattle.workspace.specs.Views.{sort_of_kind}
+use Rattle.text_tables.specs.Views.{sort_of_kind}
 use Rattle.text_names.specs.UsedNames.{Holds}
 use Rattle.text_names.specs.Views.{variable_in}
 use Rattle.text_names.specs.Variables.{other_kind_names}

@@ -1,6 +1,6 @@
 use Rattle.std.proofs.lemmas.Result.{on_ok_weaker}
 use Rattle.text_lines.specs.Views.{params_in, statement_of}
-use Rattle.workspace.specs.Tables.{declared}
+use Rattle.text_tables.specs.Tables.{declared}
 use Rattle.text_parser.proofs.Adding.{impl-is, impl-adds}
 use Rattle.text_parser.proofs.declaring.declare_impl.Goals as goal
 

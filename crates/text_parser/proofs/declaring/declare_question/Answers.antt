@@ -1,6 +1,6 @@
 use Rattle.std.proofs.lemmas.Result.{on_ok_weaker}
 use Rattle.text_lines.specs.Views.{params_in}
-use Rattle.workspace.specs.Tables.{declared}
+use Rattle.text_tables.specs.Tables.{declared}
 use Rattle.text_parser.proofs.Adding.{question-adds}
 use Rattle.text_parser.proofs.declaring.declare_question.Goals as goal
 

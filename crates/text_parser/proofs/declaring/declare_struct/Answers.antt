@@ -2,7 +2,7 @@ use Rattle.std.proofs.Common.{refl}
 use Rattle.std.proofs.lemmas.Result.{on_ok_weaker}
 use Rattle.text_lines.specs.Statement.{struct_statement}
 use Rattle.text_lines.specs.Views.{params_in, statement_of}
-use Rattle.workspace.specs.Tables.{declared}
+use Rattle.text_tables.specs.Tables.{declared}
 use Rattle.text_parser.proofs.Adding.{new-name, struct-said, struct-is, struct-adds}
 use Rattle.text_parser.proofs.declaring.declare_struct.Goals as goal
 

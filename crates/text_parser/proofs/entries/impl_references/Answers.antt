@@ -1,5 +1,5 @@
 use Rattle.std.proofs.Common.{◌-◌, length, take, drop, sym, ap, subst, ◌∙◌, arith}
-use Rattle.workspace.specs.Tables.{declared}
+use Rattle.text_tables.specs.Tables.{declared}
 use Rattle.text_parser.specs.Entries.{IsImpl}
 use Rattle.text_parser.specs.Sights.{sight_of}
 use Rattle.text_parser.proofs.KeptTypes.{two-first}

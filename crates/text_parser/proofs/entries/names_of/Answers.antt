@@ -4,7 +4,7 @@ use Rattle.text_parser.specs.BareLines.{bare_line}
 use Rattle.text_parser.specs.Sights.{sight_of}
 use Rattle.text_parser.proofs.Ordering.{Ordered, line-ordered}
 use Rattle.text_parser.proofs.Sighted.{sighted}
-use Rattle.workspace.specs.Tables.{declared}
+use Rattle.text_tables.specs.Tables.{declared}
 use Rattle.text_parser.proofs.entries.names_of.Goals as goal
 use Rattle.type_terms.proofs.TypeBasics.{both-ok}
 

@@ -2,8 +2,8 @@ use Rattle.std.proofs.Common.{◌-◌, length, take, drop, map, sym, ap, subst, 
 use Rattle.text_language.specs.Faults.{once}
 use Rattle.text_lines.specs.Views.{params_in}
 use Rattle.text_names.specs.Views.{variable_in}
-use Rattle.workspace.specs.Tables.{declared}
-use Rattle.workspace.specs.Views.{is_refute}
+use Rattle.text_tables.specs.Tables.{declared}
+use Rattle.text_tables.specs.Views.{is_refute}
 use Rattle.text_parser.specs.Entries.{AsksQuestion}
 use Rattle.text_parser.specs.Kept.{MeansClauses}
 use Rattle.text_parser.specs.Sights.{sight_of}

@@ -1,6 +1,6 @@
 use Rattle.std.proofs.Common.{arith, subst}
 use Rattle.std.proofs.lemmas.Result.{IfOk-weaker}
-use Rattle.workspace.specs.Tables.{declared}
+use Rattle.text_tables.specs.Tables.{declared}
 use Rattle.text_parser.specs.Kept.{MeansBounds}
 use Rattle.text_parser.specs.Sights.{sight_of}
 use Rattle.text_parser.proofs.Meaning.{bounds-are, ready-item}

@@ -7,7 +7,7 @@ use Rattle.text_lines.specs.Views.{statement_of}
 use Rattle.text_names.specs.FaultNumbers.{fault_number}
 use Rattle.text_names.specs.Judged.{fault_in, HandsOn}
 use Rattle.text_names.specs.Speaks.{Speaks}
-use Rattle.workspace.specs.Tables.{declared}
+use Rattle.text_tables.specs.Tables.{declared}
 use Rattle.text_parser.specs.BareLines.{bare_line}
 use Rattle.text_parser.specs.Sights.{sight_of}
 use Rattle.text_parser.proofs.Ordering.{Ordered, line-ordered, speaks-bare}

@@ -1,6 +1,6 @@
 use Rattle.std.proofs.Common.{◌≡◌, ◌+◌, ◌≤◌, length, map}
 use Rattle.text_language.specs.Lowering.{place_among}
-use Rattle.workspace.specs.Views.{sort_of_kind}
+use Rattle.text_tables.specs.Views.{sort_of_kind}
 use Rattle.text_names.specs.Views.{variable_in}
 use Rattle.text_parser.specs.Numbering.{names_of_sort}
 use Rattle.text_parser.proofs.numbering.place_among.Given as goal

@@ -1,6 +1,6 @@
 use Rattle.std.proofs.Common.{◌≡◌, ◌++◌, map, length}
 use Rattle.text_lines.specs.Views.{params_in}
-use Rattle.workspace.specs.Views.{sorts_of}
+use Rattle.text_tables.specs.Views.{sorts_of}
 use Rattle.text_parser.specs.BareLines.{sort_of_param}
 use Rattle.text_parser.proofs.params.kinds_of.Given as goal
 

@@ -1,6 +1,6 @@
 use Rattle.std.proofs.Common.{◌≡◌, ◌++◌, map, length}
 use Rattle.text_lines.specs.Views.{params_in}
-use Rattle.workspace.specs.Views.{sorted_params}
+use Rattle.text_tables.specs.Views.{sorted_params}
 use Rattle.text_parser.specs.BareLines.{sorted_param}
 use Rattle.text_parser.proofs.params.named_params.Given as goal
 

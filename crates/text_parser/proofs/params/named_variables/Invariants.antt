@@ -1,6 +1,6 @@
 use Rattle.std.proofs.Common.{◌≡◌, ◌++◌, map, length}
 use Rattle.text_names.specs.Views.{variable_in}
-use Rattle.workspace.specs.Views.{sorted_params}
+use Rattle.text_tables.specs.Views.{sorted_params}
 use Rattle.text_parser.proofs.params.named_variables.Given as goal
 
 abbrev pub invariant-loop-rest : goal.invariant-loop-rest

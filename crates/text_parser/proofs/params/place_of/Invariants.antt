@@ -3,7 +3,7 @@ use Rattle.std.specs.List.{position_from}
 use Rattle.std.specs.Str.{bytes_eq}
 use Rattle.text_lines.specs.Views.{params_in}
 use Rattle.text_names.specs.LookUps.{place_in}
-use Rattle.workspace.specs.Views.{sort_of_kind}
+use Rattle.text_tables.specs.Views.{sort_of_kind}
 use Rattle.text_parser.specs.BareLines.{names_of_sort}
 use Rattle.text_parser.proofs.params.place_of.Given as goal
 

@@ -1,7 +1,7 @@
 use Rattle.std.proofs.Common.{◌∙◌}
 use Rattle.std.proofs.lemmas.Result.{err_from_is_err_and}
 use Rattle.text_parser.proofs.Parsed.{same-declarations, memory-alone, not-faulty, same-fault}
-use Rattle.workspace.specs.Tables.{declared}
+use Rattle.text_tables.specs.Tables.{declared}
 use Rattle.text_parser.proofs.parsing.parse.Goals as goal
 
 pub returns-in_err-tables-clause-gives : goal.returns-in_err-tables-clause-gives

@@ -1,5 +1,5 @@
 use Rattle.std.proofs.Common.{ap, ◌∙◌, ◌++◌, ◌∷◌, []}
-use Rattle.workspace.specs.declared.cell.TermCell.TheVariants.{Param}
+use Rattle.text_tables.specs.declared.cell.TermCell.TheVariants.{Param}
 use Rattle.text_parser.proofs.KeptTypes.{self-kept}
 use Rattle.text_parser.proofs.parts.self_cells.Goals as goal
 

@@ -1,7 +1,7 @@
 use Rattle.std.proofs.Common.{◌<◌, length, subst, sym}
 use Rattle.text_lines.specs.Views.{params_in}
-use Rattle.workspace.specs.Tables.{declared}
-use Rattle.workspace.specs.Views.{asker_of}
+use Rattle.text_tables.specs.Tables.{declared}
+use Rattle.text_tables.specs.Views.{asker_of}
 use Rattle.text_parser.proofs.Queried.{asks-this, no-fault}
 use Rattle.text_parser.proofs.query_line.asked_line.Goals as goal
 

@@ -1,7 +1,7 @@
 use Rattle.text_parser.proofs.Taking.{other_byte_gives, blank_gives, unwritten_gives, read_short}
 use Rattle.text_parser.proofs.Queried.{read-given}
 use Rattle.std.proofs.Common.{refl}
-use Rattle.workspace.specs.Tables.{declared}
+use Rattle.text_tables.specs.Tables.{declared}
 use Rattle.text_parser.proofs.query_line.read_query.Goals as goal
 
 pub returns-in-OtherByte : goal.returns-in-OtherByte

@@ -1,7 +1,7 @@
 use Rattle.std.proofs.Common.{ℕ, ◌+◌, ◌≤◌, length, Result}
 use Rattle.text_language.specs.Promised.Declarations.{Declarations}
 use Rattle.text_language.specs.Text.{LinesGive, lines_of}
-use Rattle.workspace.specs.Numbered.{IsFew}
+use Rattle.text_tables.specs.Numbered.{IsFew}
 use Rattle.text_parser.proofs.text.take_lines.Given as goal
 
 abbrev pub invariant-lines : goal.invariant-lines

@@ -2,7 +2,7 @@ use Rattle.std.proofs.Common.{◌+◌, map, drop, sym, ap, ◌∙◌}
 use Rattle.std.proofs.lemmas.List.{drop_all}
 use Rattle.text_language.specs.Names.{free_unknowns, with_free}
 use Rattle.type_terms.specs.Promised.Handles.{arg_trees}
-use Rattle.workspace.specs.Views.{question_of}
+use Rattle.text_tables.specs.Views.{question_of}
 use Rattle.text_printer.specs.Called.{unknowns_of}
 use Rattle.text_printer.specs.Listed.{listed_of}
 use Rattle.text_printer.proofs.Listing.{list-held-at, next-left}

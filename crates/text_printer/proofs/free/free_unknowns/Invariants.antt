@@ -1,6 +1,6 @@
 use Rattle.std.proofs.Common.{◌≡◌, [], map, drop}
 use Rattle.text_language.specs.Names as names
-use Rattle.workspace.specs.Views.{question_of}
+use Rattle.text_tables.specs.Views.{question_of}
 use Rattle.text_printer.specs.Called.{unknowns_of}
 use Rattle.text_printer.specs.Listed.{listed_of}
 use Rattle.text_printer.proofs.free.free_unknowns.Given as goal

@@ -3,7 +3,7 @@ use Rattle.std.specs.ControlFlow.{break_value}
 use Rattle.text_language.specs.Names.{with_free}
 use Rattle.text_printer.specs.Called.{unknowns_of}
 use Rattle.type_terms.specs.Promised.Handles.{arg_trees}
-use Rattle.workspace.specs.Views.{question_of}
+use Rattle.text_tables.specs.Views.{question_of}
 use Rattle.text_printer.proofs.Visiting.{visited}
 use Rattle.text_printer.proofs.free.list_value.Goals as goal
 

@@ -3,7 +3,7 @@ use Rattle.text_language.specs.Names as names
 use Rattle.text_language.specs.Names.{valued, own_from}
 use Rattle.text_printer.specs.Answers.{value_of}
 use Rattle.type_terms.specs.Promised.Handles.{arg_trees}
-use Rattle.workspace.specs.Views.{question_of, variable_of}
+use Rattle.text_tables.specs.Views.{question_of, variable_of}
 use Rattle.text_printer.specs.Called.{unknowns_of}
 use Rattle.text_printer.specs.Listed.{listed_of}
 use Rattle.text_printer.proofs.NamedTexts.{all-texts}

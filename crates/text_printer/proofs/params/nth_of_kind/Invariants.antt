@@ -2,7 +2,7 @@ use Rattle.std.proofs.Common.{◌≡◌, drop}
 use Rattle.std.specs.Prelude.{slice_get, filter}
 use Rattle.type_terms.specs.Promised.Trees.{is_sort}
 use Rattle.text_printer.specs.Kinds as term
-use Rattle.workspace.specs.Views as param
+use Rattle.text_tables.specs.Views as param
 use Rattle.text_printer.proofs.params.nth_of_kind.Given as goal
 
 abbrev pub invariant-loop-param : goal.invariant-loop-param

@@ -1,6 +1,6 @@
 use Rattle.std.proofs.Common.{ap, sym}
 use Rattle.type_terms.specs.Promised.Label.{of_type, of_const, of_lifetime}
-use Rattle.workspace.specs.Views.{sort_of_kind}
+use Rattle.text_tables.specs.Views.{sort_of_kind}
 use Rattle.text_names.specs.Variables.{other_kind_names}
 use Rattle.text_names.proofs.OtherSorts.{has-other}
 use Rattle.text_names.proofs.variables.OtherKinds.have.Goals as goal

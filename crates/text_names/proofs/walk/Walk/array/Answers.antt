@@ -3,7 +3,7 @@ use Rattle.type_terms.specs.Promised.Label.{array}
 use Rattle.text_language.specs.Uses.{length_uses}
 use Rattle.text_language.specs.Faults.{variables_in}
 use Rattle.text_lines.specs.TypeViews.{length_of}
-use Rattle.workspace.specs.Views.{sort_of_kind}
+use Rattle.text_tables.specs.Views.{sort_of_kind}
 use Rattle.text_names.specs.Views.{resolved_in}
 use Rattle.text_names.specs.Resolved as resolved
 use Rattle.text_names.specs.Machine.{Found, params, visiting, keeping, deepening, deeper, using, sort_misfits, type_place}

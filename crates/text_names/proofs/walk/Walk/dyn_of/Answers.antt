@@ -4,7 +4,7 @@ use Rattle.text_lines.specs.Back.{parts_above, shape_of}
 use Rattle.text_names.specs.Resolved.{Region}
 use Rattle.text_names.specs.Machine.{WalkFrame, Found, seen_items, params, going, using, noting, keeping, deepening, deeper, sort_misfits, items_inside, shape_autos, shape_principals, last_item_region}
 use Rattle.text_names.specs.Shapes.{dyn_cells, summary}
-use Rattle.workspace.specs.Views.{sort_of_kind}
+use Rattle.text_tables.specs.Views.{sort_of_kind}
 use Rattle.text_names.specs.Views.{region_in}
 use Rattle.text_names.specs.WalkViews.{frames_in}
 use Rattle.text_names.proofs.Summed.{autos-gathered, principals-counted, cells-room}

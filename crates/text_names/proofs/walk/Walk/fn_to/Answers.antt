@@ -3,7 +3,7 @@ use Rattle.std.proofs.lemmas.List.{length-map}
 use Rattle.type_terms.specs.Promised.Label.{fn_ptr}
 use Rattle.text_lines.specs.TokenViews.{text_of}
 use Rattle.text_language.specs.Uses.{items_use, binder_uses}
-use Rattle.workspace.specs.Views.{sort_of_kind}
+use Rattle.text_tables.specs.Views.{sort_of_kind}
 use Rattle.text_names.specs.Resolved as resolved
 use Rattle.text_lines.specs.Back.{count_above}
 use Rattle.text_names.specs.Machine.{Found, WalkState, findings, going, keeping, deepening, using, sort_misfits, fn_frame}

@@ -1,6 +1,6 @@
 use Rattle.std.proofs.Common.{◌≡◌, ◌∷◌, [], sym, ap, ◌∙◌}
 use Rattle.text_language.specs.Uses.{lifetime_use, lifetime_arg_uses}
-use Rattle.workspace.specs.Views.{sort_of_kind}
+use Rattle.text_tables.specs.Views.{sort_of_kind}
 use Rattle.text_names.specs.Views.{region_in}
 use Rattle.text_names.specs.Resolved as resolved
 use Rattle.text_names.specs.Machine.{Found, findings, going, keeping, using, noting, lifetime_misfits}

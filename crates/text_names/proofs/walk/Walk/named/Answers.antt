@@ -3,7 +3,7 @@ use Rattle.std.specs.Prelude.{not, ◌&&◌}
 use Rattle.type_terms.specs.Promised.Label.{Sort}
 use Rattle.text_language.specs.Promised.Declarations.{known}
 use Rattle.text_language.specs.Uses.{name_use, kinds_of_struct}
-use Rattle.workspace.specs.Views.{sort_of_kind, sorts_of}
+use Rattle.text_tables.specs.Views.{sort_of_kind, sorts_of}
 use Rattle.text_names.specs.Views.{resolved_in}
 use Rattle.text_names.specs.Machine.{WalkFrame, Found, seen_items, going, keeping, deepening, deeper, using, name_misfits, name_cells, is_const_place, args_inside}
 use Rattle.text_names.specs.WalkViews.{frames_in}

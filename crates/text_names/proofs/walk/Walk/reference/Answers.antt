@@ -2,7 +2,7 @@ use Rattle.std.proofs.Common.{◌∷◌, ◌++◌, sym, ap, ◌∙◌}
 use Rattle.std.specs.Option.{option_map}
 use Rattle.text_lines.specs.TokenViews.{text_of}
 use Rattle.text_language.specs.Uses.{lifetime_uses}
-use Rattle.workspace.specs.Views.{sort_of_kind}
+use Rattle.text_tables.specs.Views.{sort_of_kind}
 use Rattle.text_names.specs.Views.{region_in}
 use Rattle.text_names.specs.Resolved as resolved
 use Rattle.text_names.specs.Machine.{Found, visiting, keeping, deepening, deeper, using, sort_misfits, type_place}

@@ -1,7 +1,7 @@
 use Rattle.std.proofs.Common.{◌≡◌, ℕ, Option, ◌∷◌, [], ◌++◌, refl, sym, ap, ◌∙◌, false}
 use Rattle.type_terms.specs.Promised.Label.{tuple}
 use Rattle.text_language.specs.Uses.{items_use}
-use Rattle.workspace.specs.Views.{sort_of_kind}
+use Rattle.text_tables.specs.Views.{sort_of_kind}
 use Rattle.text_names.specs.Resolved as resolved
 use Rattle.text_names.specs.Machine.{WalkFrame, Found, going, using, keeping, deepening, deeper, sort_misfits, types_inside, tuple_step}
 use Rattle.text_names.specs.WalkViews.{place_of, frames_in}

@@ -1,6 +1,6 @@
 use Rattle.std.proofs.Common.{◌∷◌, [], ap}
 use Rattle.text_language.specs.Uses.{variable_use}
-use Rattle.workspace.specs.Views.{sort_of_kind}
+use Rattle.text_tables.specs.Views.{sort_of_kind}
 use Rattle.text_names.specs.Resolved as resolved
 use Rattle.text_names.specs.Machine.{Found, going, keeping, deepening, name_misfits}
 use Rattle.text_names.specs.WalkViews.{frames_in}

@@ -4,7 +4,7 @@ use Rattle.text_language.specs.Promised.Declarations.{known, kinds_of}
 use Rattle.text_language.specs.Uses.{params_of}
 use Rattle.text_language.specs.Promised.Faults.{with_own}
 use Rattle.text_lines.specs.Views.{statement_of, params_in}
-use Rattle.workspace.specs.Views.{sorts_of}
+use Rattle.text_tables.specs.Views.{sorts_of}
 use Rattle.text_parser.specs.BareLines.{bare_line, params_from}
 use Rattle.text_parser.proofs.OwnKnown.{struct-known, trait-known}
 use Rattle.text_parser.proofs.line_tables.LineTablesNames.known.Goals as goal

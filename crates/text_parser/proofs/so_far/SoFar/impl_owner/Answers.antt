@@ -1,6 +1,6 @@
 use Rattle.std.proofs.Common.{◌<◌, length, subst, sym}
 use Rattle.text_language.specs.Promised.Declarations.{Declarations}
-use Rattle.workspace.specs.Tables.{declared}
+use Rattle.text_tables.specs.Tables.{declared}
 use Rattle.text_parser.proofs.Sections.{owner-there}
 use Rattle.text_parser.proofs.so_far.SoFar.impl_owner.Goals as goal
 

@@ -1,0 +1,23 @@
+use Rattle.std.proofs.Common.{refl, arith, ap, Err}
+use Rattle.type_terms.specs.Promised.Label.{slice}
+use Rattle.type_terms.specs.Promised.Handles.{types}
+use Rattle.text_tables.specs.declared.cell.TermCell.TheVariants as cells
+use Rattle.text_tables.specs.Stack.{stack_of}
+use Rattle.text_tables.proofs.Lowering.{over-lowers}
+use Rattle.text_tables.proofs.Counting.{at-most-one, none-added}
+use Rattle.text_tables.proofs.Refusals.{refused-term}
+use Rattle.text_tables.proofs.cells.lower_slice.Goals as goal
+
+pub returns-clause-lowers : goal.returns-clause-lowers
+returns-clause-lowers c = over-lowers cells.Slice slice c.pop_type-item.result c.args.cx.now.entries _ (stack_of c.args.stack.now.items) _ c.in_ok-ty.ty refl (λ T. refl) c.pop_type-item.ensures c.requires.held c.in_ok-ty.ensures.is c.in_ok-ty.ensures.grew.keeps
+
+pub returns-in_err-ty-clause-terms : goal.returns-in_err-ty-clause-terms
+returns-in_err-ty-clause-terms c =
+    let refused = c.in_err-ty.ensures in
+    record { grew = c.mk_ty.ensures.grew; full = refused-term types c.from_residual.result (omega arith) c.from_residual.ensures.1 (λ q. refused.full (ap Err q)) refused.grew.limit refused.refused }
+
+pub returns-in_err-ty-clause-few : goal.returns-in_err-ty-clause-few
+returns-in_err-ty-clause-few c = let same = none-added c.in_err-ty.ensures.refused in omega (arith, same)
+
+pub returns-clause-few : goal.returns-clause-few
+returns-clause-few c = let one = at-most-one c.in_ok-ty.ensures.adds in omega (arith, one)

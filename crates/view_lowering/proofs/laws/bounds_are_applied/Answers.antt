@@ -1,5 +1,0 @@
-use Rattle.view_lowering.proofs.ReadySeen.{texts-bounds}
-use Rattle.view_lowering.proofs.laws.bounds_are_applied.Goals as goal
-
-pub returns : goal.returns
-returns c = texts-bounds

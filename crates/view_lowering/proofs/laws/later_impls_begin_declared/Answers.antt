@@ -1,5 +1,0 @@
-use Rattle.view_lowering.proofs.Begins.{later-begin}
-use Rattle.view_lowering.proofs.laws.later_impls_begin_declared.Goals as goal
-
-pub returns : goal.returns
-returns c = λ bytes d h. later-begin bytes d h

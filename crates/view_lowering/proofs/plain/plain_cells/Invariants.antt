@@ -1,7 +1,0 @@
-use Rattle.std.proofs.Common.{take}
-use Rattle.view_lowering.proofs.PlainLists.{ArePlain}
-use Rattle.view_lowering.specs.PlainCells.{is_kept}
-use Rattle.view_lowering.proofs.plain.plain_cells.Given as goal
-
-abbrev pub invariant-loop-cell : goal.invariant-loop-cell
-invariant-loop-cell l = ArePlain (is_kept l.kept) (take l.cell-index l.cells) l.plain.items

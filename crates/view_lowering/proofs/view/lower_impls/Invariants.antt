@@ -1,5 +1,0 @@
-use Rattle.view_lowering.proofs.Views.{ImplsAdded}
-use Rattle.view_lowering.proofs.view.lower_impls.Given as goal
-
-abbrev pub invariant-loop-entry : goal.invariant-loop-entry
-invariant-loop-entry l = ImplsAdded l.workspace l.crate_id.index l.from l.fn.cx.entries l.fn.cx.limit l.fn.decls l.entry-index l.cx.entries l.cx.limit l.decls

@@ -1,7 +1,0 @@
-use Rattle.workspace.specs.Made.{is_type}
-use Rattle.workspace.proofs.CellLists.{part-there, no-type}
-use Rattle.workspace.proofs.lists.types_in.Goals as goal
-
-pub unreachable-requires : goal.unreachable-requires
-unreachable-requires c =
-    no-type c.term-item.result (part-there is_type c.args.stack.now c.loop-term.term-index c.term-item.result c.loop-term-test.true c.term-item.is c.requires) c.in_default.not-Type

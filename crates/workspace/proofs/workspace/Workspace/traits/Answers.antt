@@ -1,7 +1,0 @@
-use Rattle.std.proofs.Common.{subst, sym}
-use Rattle.workspace.specs.Numbered.{EachNumbered}
-use Rattle.workspace.specs.Made.{ReferencesMade}
-use Rattle.workspace.proofs.workspace.Workspace.traits.Goals as goal
-
-pub returns-clause-made : goal.returns-clause-made
-returns-clause-made c = subst (EachNumbered (λ k x. ReferencesMade x.bounds.items)) (sym c.deref.ensures.value) c.self.invariant.0.made.bounds
