@@ -11,8 +11,8 @@ use Rattle.sessions.specs.TextLanguage.Promised.Declarations.{Declarations, worl
 use Rattle.sessions.specs.CandidateModel.Declared.{is_declared_view}
 use Rattle.sessions.proofs.CandidateModel.DeclaredParts.{header-declared, bound-declared}
 use Rattle.sessions.proofs.CandidateModel.PlainRules.{tame}
-use Rattle.sessions.specs.ViewLowering.Promised.SeenWorlds.{plain, all_kept, none_kept, plain_reference, plain_trait, plain_impl, plainly_seen_from, unbound_reference}
-use Rattle.sessions.proofs.ViewLowering.WellSeen.{texts-seen-well}
+use Rattle.sessions.specs.TextLowering.Promised.SeenWorlds.{plain, all_kept, none_kept, plain_reference, plain_trait, plain_impl, plainly_seen_from, unbound_reference}
+use Rattle.sessions.proofs.TextLowering.WellSeen.{texts-seen-well}
 use Rattle.sessions.specs.Promised.Promises.{view_in}
 use Rattle.sessions.specs.Promised.Releases.{asked_supers}
 use Rattle.sessions.specs.Promised.Subjects.{IsOfText}

@@ -11,13 +11,13 @@ use Rattle.sessions.specs.TypeTerms.declared.CrateId.{CrateId}
 use Rattle.text_parser.specs.Behind.{FitsBehind, LinesBehindTexts, behind}
 use Rattle.text_parser.specs.Queries.{IsQueryLine}
 use Rattle.text_parser.specs.declared.query_line.QueryLine.{QueryLine}
-use Rattle.sessions.specs.Workspace.Numbered.{IsFew}
-use Rattle.sessions.specs.Workspace.Tables.{declared, with_question}
-use Rattle.sessions.specs.Workspace.Unasked.{without_last_question}
-use Rattle.sessions.specs.Workspace.Views.{asked_of, asker_of, crate_of, question_of}
-use Rattle.sessions.specs.Workspace.declared.declared.Asked.{Asked}
-use Rattle.sessions.specs.Workspace.declared.declared.QuestionEntry.{QuestionEntry}
-use Rattle.sessions.specs.Workspace.declared.tables.Tables.{Tables}
+use Rattle.sessions.specs.TextTables.Numbered.{IsFew}
+use Rattle.sessions.specs.TextTables.Tables.{declared, with_question}
+use Rattle.sessions.specs.TextTables.Unasked.{without_last_question}
+use Rattle.sessions.specs.TextTables.Views.{asked_of, asker_of, crate_of, question_of}
+use Rattle.sessions.specs.TextTables.declared.declared.Asked.{Asked}
+use Rattle.sessions.specs.TextTables.declared.declared.QuestionEntry.{QuestionEntry}
+use Rattle.sessions.specs.TextTables.declared.tables.Tables.{Tables}
 use Rattle.sessions.specs.Promised.Subjects.{IsOfText}
 use Rattle.sessions.specs.declared.left_session.LeftSession.{LeftSession}
 use Rattle.sessions.specs.declared.limits.Limits.{Limits}

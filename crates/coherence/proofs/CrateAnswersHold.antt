@@ -22,9 +22,9 @@ use Rattle.coherence.specs.Promised.CrateAnswers.{crate_text, impl_home, number_
 use Rattle.sessions.specs.Promised.Promises.{view_in, IsVerdictOf}
 use Rattle.sessions.specs.Promised.Subjects.{IsOfText}
 use Rattle.coherence.specs.Promised.CrateAnswers.{orphan_reason, first_orphan, CrateAnswer, is_accepted, is_orphan, is_overlap}
-use Rattle.sessions.proofs.ViewLowering.Tests.{is_good_impl}
+use Rattle.sessions.proofs.TextLowering.Tests.{is_good_impl}
 use Rattle.coherence.proofs.HeaderNames.{KnowsParams, AllOk}
-use Rattle.sessions.proofs.ViewLowering.Texts.{texts-are-well}
+use Rattle.sessions.proofs.TextLowering.Texts.{texts-are-well}
 use Rattle.sessions.proofs.TypeTerms.NoHolds.{member-each}
 use Rattle.coherence.proofs.ImplParams.{unmapped, knows, header-ok}
 use Rattle.coherence.proofs.ImplPlaces.{HaveNumbers, impls-have-numbers}

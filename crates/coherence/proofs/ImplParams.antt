@@ -12,10 +12,10 @@ use Rattle.sessions.proofs.TypeTerms.Made.{left, right, false-true, no-tree, mad
 use Rattle.sessions.proofs.TypeTerms.Members.{same-number, self-number}
 use Rattle.sessions.specs.TextLanguage.Promised.Declarations.{NamedImpl}
 use Rattle.sessions.specs.CandidateModel.Declared.{is_declared_leaf}
-use Rattle.sessions.proofs.ViewLowering.Sorts.{is_bad}
-use Rattle.sessions.proofs.ViewLowering.Tests.{is_good, all_stand, is_good_impl}
-use Rattle.sessions.specs.ViewLowering.Promised.SeenWorlds.{plain, plain_label, all_kept}
-use Rattle.sessions.specs.ViewLowering.Seen.{param_sorts}
+use Rattle.sessions.proofs.TextLowering.Sorts.{is_bad}
+use Rattle.sessions.proofs.TextLowering.Tests.{is_good, all_stand, is_good_impl}
+use Rattle.sessions.specs.TextLowering.Promised.SeenWorlds.{plain, plain_label, all_kept}
+use Rattle.sessions.specs.TextLowering.Seen.{param_sorts}
 use Rattle.sessions.specs.TypeTerms.Promised.OpenedHeaders.{is_param}
 use Rattle.coherence.proofs.HeaderNames.{KnowsParams, AllOk, mapped-at}
 use Rattle.sessions.proofs.TypeTerms.TermBasics.{sort-self, sort-equal}

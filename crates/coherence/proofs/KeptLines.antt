@@ -6,10 +6,10 @@ use Rattle.std.proofs.lemmas.Bool.{cases_eq, cases_lt}
 use Rattle.std.proofs.lemmas.Option.{same_Some, slice_get_within}
 use Rattle.sessions.specs.TextLanguage.Promised.Declarations.{Declarations, Check, of_later, of_supers}
 use Rattle.sessions.specs.TypeTerms.declared.CrateId.{CrateId}
-use Rattle.sessions.specs.Workspace.Numbered.{IsNumbered, IsCheckIn}
-use Rattle.sessions.specs.Workspace.Views.{check_of}
-use Rattle.sessions.specs.Workspace.declared.declared.Check as code
-use Rattle.sessions.specs.Workspace.declared.declared.Check.TheVariants.{Supers}
+use Rattle.sessions.specs.TextTables.Numbered.{IsNumbered, IsCheckIn}
+use Rattle.sessions.specs.TextTables.Views.{check_of}
+use Rattle.sessions.specs.TextTables.declared.declared.Check as code
+use Rattle.sessions.specs.TextTables.declared.declared.Check.TheVariants.{Supers}
 use Rattle.sessions.specs.Promised.Subjects.{Subject, StaysOn}
 use Rattle.coherence.specs.Groups.{checked_crate, IsCheckedIn, IsAskedIn, ArePlacesWhere}
 use Rattle.coherence.specs.KeptLines.{HasCheckLine, IsCheckLineOf, IsLineOf, IsKeptLine, KeepsEach, KeepsChecks, KeepsQuestions}

@@ -3,7 +3,7 @@ use Rattle.std.proofs.Common.{◌≡◌, ℕ, List, [], ◌∷◌, ◌++◌, get
 use Rattle.std.proofs.lemmas.List.Elements.{All-append, All-cons, All-nil, All-take, All-drop}
 use Rattle.std.specs.Prelude.{Bool, true, false, suc, if◌then◌else◌, take, drop}
 use Rattle.sessions.specs.TextLanguage.Promised.Declarations.{Declarations, Question}
-use Rattle.sessions.specs.Workspace.Tables.{with_question}
+use Rattle.sessions.specs.TextTables.Tables.{with_question}
 use Rattle.sessions.specs.LeftSessions.{IsLeftSession}
 use Rattle.sessions.specs.declared.left_session.LeftSession.{LeftSession}
 use Rattle.sessions.specs.declared.limits.Limits.{Limits}

@@ -1,4 +1,3 @@
-pub mod DepthWords
 pub mod StreamLemmas
 pub mod LineLaws
 pub mod Places

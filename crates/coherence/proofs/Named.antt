@@ -6,7 +6,7 @@ use Rattle.sessions.specs.TypeTerms.Promised.Erased.{erased_world, erased_impl}
 use Rattle.sessions.specs.TypeTerms.Promised.Proofs.{In}
 use Rattle.sessions.proofs.TypeTerms.Members.{in-filter}
 use Rattle.sessions.specs.TextLanguage.Promised.Declarations.{Declarations, NamedImpl, world_of}
-use Rattle.sessions.specs.Workspace.Numbered.{IsNumbered}
+use Rattle.sessions.specs.TextTables.Numbered.{IsNumbered}
 use Rattle.sessions.specs.Promised.Promises.{IsVerdictOf, view_in}
 use Rattle.sessions.specs.Promised.Releases.{StopsAt}
 use Rattle.sessions.specs.Verdicts.{Verdict, accepted, orphan, overlap}

@@ -4,7 +4,7 @@ use Rattle.sessions.specs.TypeTerms.Promised.Label.{Label, of_type, of_const, of
 use Rattle.sessions.specs.TypeTerms.Promised.Supers.{opaque}
 use Rattle.sessions.specs.TypeTerms.Promised.Trees.{Trees, none, tree, erase, some_node}
 use Rattle.sessions.proofs.CandidateModel.PlainRules.{is_wild}
-use Rattle.sessions.specs.ViewLowering.Promised.SeenWorlds.{plain, plain_label, all_kept, none_kept}
+use Rattle.sessions.specs.TextLowering.Promised.SeenWorlds.{plain, plain_label, all_kept, none_kept}
 use Rattle.coherence.specs.Promised.CheckAnswers.{asked_header}
 use Rattle.sessions.proofs.TypeTerms.BooleanBasics.{true-false as refuse}
 use Rattle.sessions.proofs.OpaqueTerms.{node}

@@ -7,10 +7,10 @@ use Rattle.std.proofs.lemmas.Option.{same_Some, slice_get-get_or, slice_get-map,
 use Rattle.sessions.specs.TypeTerms.declared.CrateId.{CrateId}
 use Rattle.sessions.specs.Promised.Subjects.{Asks, AsksProof, AsksRefutation}
 use Rattle.sessions.specs.TextLanguage.Promised.Declarations.{Declarations, NamedCrate, Question}
-use Rattle.sessions.specs.Workspace.Numbered.{IsNumbered}
-use Rattle.sessions.specs.Workspace.Views.{numbers_of, asked_of, asker_of, is_refute, check_of}
-use Rattle.sessions.specs.Workspace.declared.declared.Asked.{Asked}
-use Rattle.sessions.specs.Workspace.declared.declared.Check.{Check}
+use Rattle.sessions.specs.TextTables.Numbered.{IsNumbered}
+use Rattle.sessions.specs.TextTables.Views.{numbers_of, asked_of, asker_of, is_refute, check_of}
+use Rattle.sessions.specs.TextTables.declared.declared.Asked.{Asked}
+use Rattle.sessions.specs.TextTables.declared.declared.Check.{Check}
 
 -- an element of a list has one that stands for it
 pub map-get : {A B C : Type 0} (f : A → C) (g : B → C) (xs : List A) (ys : List B) → map f xs ≡ map g ys → (k : ℕ) (x : A) → slice_get xs k ≡ Some x → (y : B) × (slice_get ys k ≡ Some y) × (f x ≡ g y)

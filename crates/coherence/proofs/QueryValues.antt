@@ -3,10 +3,10 @@ use Rattle.std.proofs.Common.{◌≡◌, ℕ, ◌+◌, ◌-◌, ◌<◌, ◌≤�
 use Rattle.sessions.specs.TypeTerms.declared.CrateId.{CrateId}
 use Rattle.sessions.specs.Promised.Subjects.{AsksProof, AsksRefutation}
 use Rattle.sessions.specs.TextLanguage.Promised.Declarations.{Declarations, Question}
-use Rattle.sessions.specs.Workspace.Numbered.{IsNumbered}
-use Rattle.sessions.specs.Workspace.Views.{asked_of}
-use Rattle.sessions.specs.Workspace.declared.declared.Asked.{Asked}
-use Rattle.sessions.specs.Workspace.declared.declared.Asked.TheVariants.{Prove, Refute}
+use Rattle.sessions.specs.TextTables.Numbered.{IsNumbered}
+use Rattle.sessions.specs.TextTables.Views.{asked_of}
+use Rattle.sessions.specs.TextTables.declared.declared.Asked.{Asked}
+use Rattle.sessions.specs.TextTables.declared.declared.Asked.TheVariants.{Prove, Refute}
 use Rattle.coherence.specs.Queries.{IsProveQuery, IsRefuteQuery}
 use Rattle.coherence.proofs.Places.{asked-at, proof-asked, refutation-asked}
 

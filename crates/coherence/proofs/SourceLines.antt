@@ -3,7 +3,7 @@ use Rattle.std.proofs.Common.{◌≡◌, ℕ, zero, suc, ◌+◌, ◌-◌, ◌<�
 use Rattle.std.specs.Prelude.{IfSome}
 use Rattle.sessions.specs.TextLanguage.Promised.Declarations.{Declarations}
 use Rattle.sessions.specs.TextLanguage.Output.{fault, output_text}
-use Rattle.sessions.specs.Workspace.Numbered.{IsNumbered}
+use Rattle.sessions.specs.TextTables.Numbered.{IsNumbered}
 use Rattle.coherence.specs.KeptLines.{HasKeptLineAt, IsCheckLineOf, IsLineOf, KeepsLines}
 use Rattle.coherence.specs.LineByLine.{CountsLine, IsLineAt, IsVerdictLine, of_crate, of_check, of_question}
 use Rattle.coherence.specs.LineSources.{IsGivenInOrder, lines_given}

@@ -9,10 +9,10 @@ use Rattle.sessions.specs.TextLanguage.Text.{LineGives, TextGives}
 use Rattle.sessions.specs.TextLanguage.Promised.Text.{text_limit}
 use Rattle.text_parser.specs.Behind.{IsOneLine}
 use Rattle.text_parser.specs.Queries.{FitsTables}
-use Rattle.sessions.specs.Workspace.Stored.{declarations_code}
-use Rattle.sessions.specs.Workspace.Tables.{with_question}
-use Rattle.sessions.specs.Workspace.Views.{question_of}
-use Rattle.sessions.specs.Workspace.declared.declared.QuestionEntry.{QuestionEntry}
+use Rattle.sessions.specs.TextTables.Stored.{declarations_code}
+use Rattle.sessions.specs.TextTables.Tables.{with_question}
+use Rattle.sessions.specs.TextTables.Views.{question_of}
+use Rattle.sessions.specs.TextTables.declared.declared.QuestionEntry.{QuestionEntry}
 use Rattle.sessions.specs.declared.limits.Limits.{Limits}
 use Rattle.sessions.specs.declared.left_session.LeftSession.{LeftSession}
 use Rattle.coherence.specs.KeptLines.{HasLine}

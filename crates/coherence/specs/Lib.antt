@@ -1,5 +1,4 @@
 pub mod Promised
-pub mod Depths
 pub mod Faults
 pub mod Lines
 pub mod Groups

@@ -3,7 +3,7 @@ use Rattle.std.specs.Prelude.{◌≡◌, ℕ, ◌+◌, ◌-◌, ◌<◌, ◌⊎�
 use Rattle.std.specs.Coded.{Coded, code_by, coded_ℕ, coded_bool, coded×, coded_result}
 use Rattle.sessions.specs.TextLanguage.Promised.Declarations.{Declarations, Check, Question}
 use Rattle.sessions.specs.TextLanguage.Output.{Answer, fault, output_text}
-use Rattle.sessions.specs.Workspace.Stored.{declarations_code}
+use Rattle.sessions.specs.TextTables.Stored.{declarations_code}
 use Rattle.sessions.specs.Promised.Promises.{IsVerdictOf}
 use Rattle.sessions.specs.Verdicts.{Verdict}
 use Rattle.coherence.specs.Lines.{verdict_line, IsCheckLine, IsQuestionLine}

@@ -2,7 +2,7 @@
 use Rattle.std.specs.Prelude.{◌≡◌, ℕ, ◌+◌, ◌-◌, ◌≤◌, ◌<◌, Bool, false, length, Result, Ok, Err, IfSome}
 use Rattle.text_parser.specs.TextNames.FaultNumbers.{fault_number}
 use Rattle.sessions.specs.TextLanguage.Promised.Declarations.{Declarations}
-use Rattle.sessions.specs.Workspace.Numbered.{IsNumbered, IsFew}
+use Rattle.sessions.specs.TextTables.Numbered.{IsNumbered, IsFew}
 use Rattle.sessions.specs.SeenViews.{IsLeftView}
 use Rattle.sessions.specs.Promised.Subjects.{IsOfText}
 use Rattle.coherence.specs.Groups.{AreGroups}

@@ -1,11 +1,11 @@
 //! The checks and queries of a text, grouped by their crates.
 
 ghost use Rattle.std.specs.Prelude.{◌+◌, ◌<◌, length, IfOk, OnOk};
-ghost use Rattle.sessions.specs.Workspace.Numbered.{IsNumbered, IsFew};
+ghost use Rattle.sessions.specs.TextTables.Numbered.{IsNumbered, IsFew};
 ghost use Rattle.coherence.specs.Groups.{IsAskedIn, IsCheckedIn, AreGroups};
 
+use sessions::text_tables::{Asked, Check, ENTRY_LIMIT, Workspace};
 use sessions::type_terms::CrateId;
-use sessions::workspace::{Asked, Check, ENTRY_LIMIT, Workspace};
 use std::alloc::{AllocError, Global};
 
 /// The checks and queries of one crate, by their indices in the text.

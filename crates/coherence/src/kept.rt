@@ -2,7 +2,7 @@
 //! session makes all lines of its crate.
 
 ghost use Rattle.std.specs.Prelude.{◌≡◌, ◌+◌, ◌<◌, ◌≤◌, ℕ, length, IfOk, IfErr, IfSome, OnOk};
-ghost use Rattle.sessions.specs.Workspace.Numbered.{IsNumbered, IsFew};
+ghost use Rattle.sessions.specs.TextTables.Numbered.{IsNumbered, IsFew};
 ghost use Rattle.sessions.specs.Promised.Shortages.{SessionFullAtLimit};
 ghost use Rattle.sessions.specs.Promised.Subjects.{IsOfText, StaysOn};
 ghost use Rattle.coherence.specs.Groups.{IsAskedIn, IsCheckedIn, ArePlacesWhere, IsGroup};
@@ -13,8 +13,8 @@ use crate::groups::Group;
 use crate::lines::{check_line, question_line};
 use crate::listener::Listener;
 use sessions::Session;
+use sessions::text_tables::{Check, ENTRY_LIMIT, Workspace};
 use sessions::type_terms::Fault;
-use sessions::workspace::{Check, ENTRY_LIMIT, Workspace};
 use std::alloc::{AllocError, Global};
 
 /// A line as text, with its line end. It is empty before it is known.

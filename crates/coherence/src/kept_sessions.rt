@@ -6,8 +6,8 @@ ghost use Rattle.sessions.specs.TextLanguage.Promised.Declarations.{Declarations
 ghost use Rattle.sessions.specs.Promised.Subjects.{IsOfText};
 ghost use Rattle.coherence.specs.KeptSessions.{AreLeftSessions};
 
+use sessions::text_tables::Workspace;
 use sessions::type_terms::{CrateId, Fault};
-use sessions::workspace::Workspace;
 use sessions::{LeftSession, Limits, Session};
 use std::alloc::Global;
 
@@ -101,8 +101,8 @@ impl KeptSessions {
         }
     }
 
-    /// A session of this crate, which goes on with what an earlier one left. It counts from nothing, so what is found does not depend on
-    /// what else was asked.
+    /// A session of this crate, which goes on with what an earlier one left. It counts from nothing, so no search is given up for what
+    /// else was asked. Stored results can shorten one.
     pub fn resume<'w>(
         &mut self,
         workspace: &'w Workspace,

@@ -6,7 +6,6 @@
 mod ask_fault;
 mod asker;
 mod coherent;
-mod depths;
 mod groups;
 mod kept;
 mod kept_sessions;
@@ -23,14 +22,13 @@ mod text_run;
 pub use ask_fault::AskFault;
 pub use asker::Asker;
 pub use coherent::{accepted_lines_tell, held_lines_tell};
-pub use depths::parse_depth;
 pub use listener::Listener;
 pub use named_answer::NamedAnswer;
 pub use output_lines::OutputLines;
 pub use outputs::{Output, answer};
 pub use query::{ProveQuery, Query, RefuteQuery};
+pub use sessions::text_tables::Workspace;
 pub use sessions::type_terms::{CrateId, Fault, ImplId};
-pub use sessions::workspace::Workspace;
 pub use sessions::{
     LaterAnswer, Limits, OrphanCheckErr, ProveAnswer, RefuteAnswer, SeenView, Session,
     SupersAnswer, UncoveredTyParams, Verdict,

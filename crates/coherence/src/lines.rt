@@ -5,7 +5,7 @@ ghost use Rattle.std.specs.Option.{option_map};
 ghost use Rattle.text_printer.specs.Answers.{text_of};
 ghost use Rattle.sessions.specs.TextLanguage.Promised.Declarations.{Question, of_later, of_supers};
 ghost use Rattle.sessions.specs.TextLanguage.Output.{uncovered, output_text};
-ghost use Rattle.sessions.specs.Workspace.Numbered.{IsNumbered, IsFew};
+ghost use Rattle.sessions.specs.TextTables.Numbered.{IsNumbered, IsFew};
 ghost use Rattle.sessions.specs.ErrorTerms.{error_in, type_in};
 ghost use Rattle.sessions.specs.HeldErrors.{ErrorHeld, TypeHeld};
 ghost use Rattle.sessions.specs.OrphanErrors as errors;
@@ -20,10 +20,10 @@ ghost use Rattle.coherence.specs.KeptLines.{NamesImpls, HasCheckLine, IsCheckLin
 
 use crate::listener::Listener;
 use crate::named_answer::{named_answer, print_named};
+use sessions::text_tables::{Asked, Check, ENTRY_LIMIT, Workspace};
 use sessions::type_terms::interner::Interner;
 use sessions::type_terms::kinds::Ty;
 use sessions::type_terms::{CrateId, Fault, ImplId};
-use sessions::workspace::{Asked, Check, ENTRY_LIMIT, Workspace};
 use sessions::{
     LaterAnswer, OrphanCheckErr, RefuteAnswer, Session, SupersAnswer, UncoveredTyParams, Verdict,
 };
@@ -193,7 +193,7 @@ fn later_line(
     ensures stays { StaysOn session.old session.new }
     ensures full { IfErr result (SessionFullAtLimit session.new) }
 {
-    // Each line counts from nothing: its answer does not depend on the lines before it.
+    // The count begins anew: the search is not given up for what earlier lines took. Their stored results can shorten it.
     session.begin_count();
     let answer = session.check_later(section)?;
     let name = workspace.crate_name(changed);
@@ -219,7 +219,7 @@ fn supers_line(
     ensures stays { StaysOn session.old session.new }
     ensures full { IfErr result (SessionFullAtLimit session.new) }
 {
-    // Each line counts from nothing: its answer does not depend on the lines before it.
+    // The count begins anew: the search is not given up for what earlier lines took. Their stored results can shorten it.
     session.begin_count();
     let answer = session.check_supertraits()?;
     let name = workspace.crate_name(asked);
@@ -311,7 +311,7 @@ fn refute_line<L: Listener>(
     ensures stays { StaysOn session.old session.new }
     ensures full { IfErr result (SessionFullAtLimit session.new) }
 {
-    // Each line counts from nothing: its answer does not depend on the lines before it.
+    // The count begins anew: the search is not given up for what earlier lines took. Their stored results can shorten it.
     session.begin_count();
     let answer = session.refute(number)?;
     let line = match answer {

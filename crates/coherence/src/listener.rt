@@ -7,7 +7,7 @@ ghost use Rattle.sessions.specs.Promised.Promises.{IsProved, IsRefutation, IsVer
 ghost use Rattle.sessions.specs.Promised.Subjects.{AsksProof, AsksRefutation, StaysOn};
 ghost use Rattle.coherence.specs.Groups.{IsCheckedIn};
 
-use sessions::workspace::Workspace;
+use sessions::text_tables::Workspace;
 use sessions::{ProveAnswer, RefuteAnswer, Session, Verdict};
 use text_parser::TextFault;
 
@@ -21,6 +21,7 @@ pub trait Listener {
 
     /// The crate of the session was judged. This comes before its checks and queries. `core` is not judged.
     fn judged(&mut self, session: &mut Session<'_>, workspace: &Workspace, verdict: &Verdict)
+        requires on { session.old.declarations ≡ workspace.now }
         requires held { VerdictHeld session.old.terms verdict.now }
         requires verdict { let s = session.old in IsVerdictOf s.depth s.declarations s.of_crate (verdict_in s.terms verdict.now) }
         ensures { StaysOn session.old session.new }
@@ -41,6 +42,7 @@ pub trait Listener {
         number: u32,
         answer: &ProveAnswer,
     )
+        requires on { session.old.declarations ≡ workspace.now }
         requires asked { (q : Question) × AsksProof session.old.declarations session.old.of_crate number q }
         requires held { AnswerValuesHeld session.old.terms answer.now }
         requires answer { (q : Question) → AsksProof session.old.declarations session.old.of_crate number q
@@ -56,6 +58,7 @@ pub trait Listener {
         number: u32,
         answer: RefuteAnswer,
     )
+        requires on { session.old.declarations ≡ workspace.now }
         requires asked { (q : Question) × AsksRefutation session.old.declarations session.old.of_crate number q }
         requires answer { (q : Question) → AsksRefutation session.old.declarations session.old.of_crate number q
             → IsRefutation session.old.depth session.old.declarations q (refutation_of answer) }

@@ -13,10 +13,10 @@ ghost use Rattle.sessions.specs.TextQuestions.{IsQuestion};
 ghost use Rattle.coherence.specs.Queries.{IsNamedAnswer, named_line};
 
 use crate::listener::Listener;
+use sessions::text_tables::Workspace;
 use sessions::type_terms::Fault;
 use sessions::type_terms::interner::Interner;
 use sessions::type_terms::kinds::GenericArgKind;
-use sessions::workspace::Workspace;
 use sessions::{ProveAnswer, Session};
 use std::alloc::{AllocError, Global};
 use text_printer::{Answer, ValueText, answer_values, print_line};
@@ -69,7 +69,7 @@ pub(crate) fn named_answer<L: Listener>(
     ensures stays { StaysOn session.old session.new }
     ensures full { IfErr result (SessionFullAtLimit session.new) }
 {
-    // Each line counts from nothing: its answer does not depend on the lines before it.
+    // The count begins anew: the search is not given up for what earlier lines took. Their stored results can shorten it.
     session.begin_count();
     let answer = session.prove(number)?;
     let named = match &answer {

@@ -4,7 +4,7 @@ ghost use Rattle.std.specs.Prelude.{◌≡◌, ◌+◌, ◌-◌, ◌<◌, ℕ, t
 ghost use Rattle.text_parser.specs.TextNames.FaultNumbers.{fault_number};
 ghost use Rattle.sessions.specs.TextLanguage.Output.{fault, output_text};
 ghost use Rattle.sessions.specs.TextLanguage.Text.{TextGives};
-ghost use Rattle.sessions.specs.Workspace.Numbered.{IsNumbered, IsFew};
+ghost use Rattle.sessions.specs.TextTables.Numbered.{IsNumbered, IsFew};
 ghost use Rattle.sessions.specs.Promised.Shortages.{SessionFullAtLimit};
 ghost use Rattle.sessions.specs.Promised.Subjects.{IsOfText, StaysOn};
 ghost use Rattle.coherence.specs.Groups.{IsGroup};
@@ -19,8 +19,8 @@ use crate::kept::{KeptLines, keep_answers, next_line, no_lines};
 use crate::lines::verdict_line;
 use crate::listener::{Listener, Nobody};
 use crate::status::Status;
+use sessions::text_tables::{ENTRY_LIMIT, Workspace};
 use sessions::type_terms::{CrateId, Fault};
-use sessions::workspace::{ENTRY_LIMIT, Workspace};
 use sessions::{Limits, SeenView, Session};
 use std::alloc::{AllocError, Global};
 use std::marker::Model;

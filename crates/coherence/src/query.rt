@@ -3,8 +3,8 @@
 ghost use Rattle.std.specs.Prelude.{◌≡◌, None, IfSome};
 ghost use Rattle.coherence.specs.Queries.{HasNoQuery, IsQueryAt};
 
+use sessions::text_tables::{Asked, Workspace};
 use sessions::type_terms::CrateId;
-use sessions::workspace::{Asked, Workspace};
 
 /// A `prove` query of a text, which [`Asker::prove`](crate::Asker::prove) answers.
 #[derive(Clone, Copy)]

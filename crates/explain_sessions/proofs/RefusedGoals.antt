@@ -27,9 +27,9 @@ use Rattle.sessions.specs.TypeTerms.Promised.Questions.{IsRefuted}
 use Rattle.sessions.specs.ProofChecker.Steps.{term_of}
 use Rattle.sessions.proofs.ProofChecker.Later.{term-same}
 use Rattle.sessions.specs.TextLanguage.Promised.Declarations.{Declarations}
-use Rattle.sessions.specs.ViewLowering.QuestionVariables.{number_of, is_undeclared_variable}
+use Rattle.sessions.specs.TextLowering.QuestionVariables.{number_of, is_undeclared_variable}
 use Rattle.sessions.specs.Checking.{solving_in}
-use Rattle.sessions.specs.Impossible.{IsImpossible, resolved_alone}
+use Rattle.sessions.specs.PairChecks.Impossible.{IsImpossible, resolved_alone}
 use Rattle.sessions.specs.Promised.Promises.{view_in}
 use Rattle.sessions.specs.Proving.{SolverIsReady, SolvesTheSame}
 use Rattle.sessions.specs.Sessions.{SolvesView}

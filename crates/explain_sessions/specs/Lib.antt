@@ -14,4 +14,4 @@ pub use Rattle.sessions.specs.OrphanCheck
 pub use Rattle.sessions.specs.ProofChecker
 pub use Rattle.sessions.specs.TextLanguage
 pub use Rattle.sessions.specs.TypeTerms
-pub use Rattle.sessions.specs.Workspace
+pub use Rattle.sessions.specs.TextTables

@@ -7,7 +7,7 @@ use Rattle.sessions.specs.TypeTerms.Promised.Proofs.{HasProof}
 use Rattle.sessions.specs.TypeTerms.Promised.Handles.{Entry}
 use Rattle.sessions.specs.TypeTerms.Promised.Worlds.{World, Reference}
 use Rattle.sessions.specs.TermFolds.declared.predicate.TraitRef.{TraitRef}
-use Rattle.sessions.specs.ViewLowering.QuestionVariables.{is_undeclared_variable}
+use Rattle.sessions.specs.TextLowering.QuestionVariables.{is_undeclared_variable}
 use Rattle.sessions.specs.TypeTerms.Promised.Questions.{IsRefuted}
 use Rattle.sessions.specs.ProofChecker.Steps.{term_of}
 

@@ -17,6 +17,7 @@ use sessions::Session;
 use sessions::declarations::declarations::Declarations;
 use sessions::orphan_check::errors::Conflict;
 use sessions::term_folds::predicate::TraitRef;
+use sessions::text_tables::Workspace;
 use sessions::type_terms::binders::Binders;
 use sessions::type_terms::interner::Interner;
 use sessions::type_terms::kinds::{BoundsData, Const, Ty, TyKind};
@@ -24,7 +25,6 @@ use sessions::type_terms::once::Once;
 use sessions::type_terms::region::Region;
 use sessions::type_terms::visit::{Seen, TypeVisitor, visit_args};
 use sessions::type_terms::{AdtId, CrateId, TraitId};
-use sessions::workspace::Workspace;
 use std::ops::ControlFlow;
 
 /// Traits of `core` that have built-in rules alone: `Sized`, `Tuple`, `FnPtr`, `FnOnce`, `FnMut`, `Fn`, `Unsize`.

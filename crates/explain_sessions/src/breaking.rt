@@ -18,9 +18,9 @@ use sessions::orphan_check::open_walk::open_walk_meets_param;
 use sessions::orphan_check::orphan::keeps_orphan_rule;
 use sessions::solver_graph::SolverCx;
 use sessions::term_folds::predicate::TraitRef;
+use sessions::text_tables::Workspace;
 use sessions::type_terms::Fault;
 use sessions::type_terms::interner::Interner;
-use sessions::workspace::Workspace;
 use sessions::{added_impls, trait_is_relied_on};
 
 /// Why a later version of a crate may not add an impl.

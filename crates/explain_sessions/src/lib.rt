@@ -49,4 +49,4 @@ pub use sessions::proof_checker::steps::{Step, Way};
 // The crates below whose names the crates above need too: these list this crate alone.
 pub use explain_traces;
 pub use sessions;
-pub use sessions::{goal_evaluator, orphan_check, term_folds, text_lines, type_terms, workspace};
+pub use sessions::{goal_evaluator, orphan_check, term_folds, text_lines, text_tables, type_terms};

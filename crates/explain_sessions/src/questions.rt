@@ -5,8 +5,8 @@ ghost use Rattle.sessions.specs.TextLanguage.Promised.Declarations.{Question};
 ghost use Rattle.sessions.specs.Declarations.Applied.{AreApplied};
 ghost use Rattle.sessions.specs.InferTable.Content.{Ready};
 ghost use Rattle.sessions.specs.InferTable.Goals.{GoalHeld};
-ghost use Rattle.sessions.specs.ViewLowering.Questions.{IsLowered};
-ghost use Rattle.sessions.specs.ViewLowering.Promised.Questions.{IsQuestion};
+ghost use Rattle.sessions.specs.TextLowering.Questions.{IsLowered};
+ghost use Rattle.sessions.specs.TextLowering.Promised.Questions.{IsQuestion};
 ghost use Rattle.explain_traces.specs.Walking.{ReferencesHeld};
 ghost use Rattle.sessions.specs.Proving.{ClausesApply, SolverAdvances, SolverIsReady};
 ghost use Rattle.sessions.specs.Sessions.{SolverRests};
@@ -21,9 +21,9 @@ use sessions::candidate_assembly::solver::Solver;
 use sessions::goal_evaluator::{Goal, TypingMode};
 use sessions::infer_table::infer_ctxt::InferCtxt;
 use sessions::solver_graph::{Search, SolverCx};
+use sessions::text_lowering::LoweredQuestion;
+use sessions::text_tables::Workspace;
 use sessions::type_terms::Fault;
-use sessions::view_lowering::LoweredQuestion;
-use sessions::workspace::Workspace;
 use sessions::{lower_in, question_table_in};
 
 /// The goal of a query of the context's terms, under its where-clauses with all their supertraits, and a table for its variables.

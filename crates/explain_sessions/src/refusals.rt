@@ -17,12 +17,13 @@ use crate::instances::table_for_goals;
 use crate::places::{is_answered, push_if, reference_at};
 use crate::unknowns::is_of_table;
 use explain_traces::{Answer, GoalWalk};
+use sessions::Session;
 use sessions::candidate_assembly::solver::Solver;
 use sessions::infer_table::infer_ctxt::InferCtxt;
+use sessions::pair_checks::is_impossible;
 use sessions::solver_graph::{Search, SolverCx};
 use sessions::term_folds::predicate::TraitRef;
 use sessions::type_terms::Fault;
-use sessions::{Session, is_impossible};
 
 /// A table in which the numbers of a goal's variables are taken, over the interner of a context.
 pub(crate) fn goal_table_in(cx: &mut SolverCx<Solver>) -> Result<InferCtxt, Fault>

@@ -5,11 +5,12 @@
 //! - Upstream: for `Vec<u8>: Foreign`, a later version of the crate of `Foreign` may add the impl.
 
 ghost use Rattle.std.specs.Prelude.{◌≡◌, not, IfOk, IfSome};
+ghost use Rattle.sessions.specs.TypeTerms.Promised.Erased.{erased_reference};
 ghost use Rattle.sessions.specs.TypeTerms.Promised.Walks.{keeps_orphan_rule};
 ghost use Rattle.sessions.specs.Declarations.Held.{ReferenceHeld};
-ghost use Rattle.sessions.specs.Declarations.Items.{declared, reference_in};
+ghost use Rattle.sessions.specs.Declarations.Items.{IsOnly, declared, reference_in};
 ghost use Rattle.sessions.specs.Promised.Promises.{view_in};
-ghost use Rattle.explain_sessions.specs.Unseen.{IsUnseen};
+ghost use Rattle.explain_sessions.specs.Unseen.{IsUnseen, headers_named};
 
 use sessions::Session;
 use sessions::declarations::declarations::Declarations;
@@ -80,7 +81,9 @@ pub fn breaks_orphan_rule(session: &Session<'_>, header: TraitRef) -> bool
 
 /// The header of an impl, over the impl's own parameters. `None` if the session's crate does not see the impl.
 pub fn impl_header(session: &Session<'_>, id: ImplId) -> Option<TraitRef>
-    ensures { IfSome result (ReferenceHeld session.now.terms) }
+    ensures held { IfSome result (ReferenceHeld session.now.terms) }
+    ensures is { let s = session.now in
+        IsOnly (λ h. erased_reference (reference_in s.terms h)) result (headers_named (view_in s.declarations s.of_crate) id.index) }
 {
     match session.search.cx.handler.declarations.impl_def(id) {
         Some(def) => Some(def.header),

@@ -24,11 +24,11 @@ use Rattle.goal_evaluator.specs.Tables.{frame_tables}
 use Rattle.solver_graph.specs.Contexts.{Asked}
 use Rattle.solver_graph.specs.Roots.{goal_in, fact_under, IsPosedGoal, AtProvedSolutions}
 use Rattle.text_language.specs.Promised.Declarations.{Question}
-use Rattle.view_lowering.specs.Promised.SeenWorlds.{unbound_reference}
-use Rattle.view_lowering.specs.Questions.{IsLowered}
-use Rattle.view_lowering.specs.declared.question.LoweredQuestion.{LoweredQuestion}
-use Rattle.view_lowering.specs.Promised.Questions.{variable_kinds}
-use Rattle.view_lowering.specs.QuestionVariables.{number_of, HasVariablesAlone}
+use Rattle.text_lowering.specs.Promised.SeenWorlds.{unbound_reference}
+use Rattle.text_lowering.specs.Questions.{IsLowered}
+use Rattle.text_lowering.specs.declared.question.LoweredQuestion.{LoweredQuestion}
+use Rattle.text_lowering.specs.Promised.Questions.{variable_kinds}
+use Rattle.text_lowering.specs.QuestionVariables.{number_of, HasVariablesAlone}
 use Rattle.sessions.specs.Asking.{HasNoProof, goal_alone}
 use Rattle.sessions.specs.Tables.{table_of}
 use Rattle.sessions.proofs.Posed.{no-canonical, known}

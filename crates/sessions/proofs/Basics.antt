@@ -2,7 +2,7 @@
 use Rattle.std.proofs.Common.{ℕ, ◌≡◌, zero, refl, suc, ap, List, ◌++◌}
 use Rattle.overlap_check.specs.Goals.{repeated}
 use Rattle.type_terms.specs.Promised.Label.{of_const, Sort, of_type}
-use Rattle.view_lowering.specs.QuestionVariables.{number_of}
+use Rattle.text_lowering.specs.QuestionVariables.{number_of}
 
 pub all-consts : (n : ℕ) → number_of of_const (repeated of_const n) ≡ n
 all-consts zero = refl

@@ -4,7 +4,7 @@ use Rattle.type_terms.specs.declared.ImplId.{ImplId}
 use Rattle.text_language.specs.Promised.Declarations.{Declarations}
 use Rattle.type_terms.specs.Promised.Verdicts.{IsOverlap, IsAccepted, KeepsOrphanRule}
 use Rattle.overlap_check.proofs.Contracts.{passed-accepted}
-use Rattle.workspace.specs.Numbered.{IsNumbered}
+use Rattle.text_tables.specs.Numbered.{IsNumbered}
 use Rattle.sessions.specs.Checking.{ArePassedAt, IsJudgedAt, HasJudged, HasPartner, HasOverlap}
 use Rattle.sessions.specs.Promised.Promises.{view_in}
 use Rattle.sessions.specs.Promised.Subjects.{Subject, StaysOn}

@@ -10,11 +10,11 @@ use Rattle.type_terms.specs.Made.{Standing, terms, bounds, traits, is_made}
 use Rattle.type_terms.proofs.Made.{left, right, false-true, no-tree, made-ordinary, last-bound, last-trait, never-dynamic, never-dynamic-bound, never-principal}
 use Rattle.candidate_model.specs.Candidates.{is_this_param}
 use Rattle.candidate_model.specs.Declared.{is_declared_leaf}
-use Rattle.view_lowering.specs.Promised.SeenWorlds.{plain, plain_label, all_kept}
-use Rattle.view_lowering.proofs.Sorts.{is_bad}
-use Rattle.view_lowering.proofs.Tests.{is_good, all_stand}
-use Rattle.view_lowering.proofs.Trees.{and-left, or-left, or-right}
-use Rattle.view_lowering.proofs.SeenViews.{good-fits, sort-there, stands-by}
+use Rattle.text_lowering.specs.Promised.SeenWorlds.{plain, plain_label, all_kept}
+use Rattle.text_lowering.proofs.Sorts.{is_bad}
+use Rattle.text_lowering.proofs.Tests.{is_good, all_stand}
+use Rattle.text_lowering.proofs.Trees.{and-left, or-left, or-right}
+use Rattle.text_lowering.proofs.SeenViews.{good-fits, sort-there, stands-by}
 use Rattle.type_terms.specs.Promised.Supers.{mentions_as}
 use Rattle.sessions.proofs.SeenPlainly.{plain-erased}
 use Rattle.sessions.proofs.Mentioned.{Place, at_label, at_child, at_next, place-of, either, in-label, in-child, in-next}

@@ -29,9 +29,9 @@ use Rattle.solver_graph.specs.LeftTables.{AnswersLeave, itself, further}
 use Rattle.solver_graph.specs.Roots.{fact_under}
 use Rattle.text_language.specs.Names.{own_unknowns}
 use Rattle.text_language.specs.Promised.Declarations.{Declarations, Question}
-use Rattle.view_lowering.specs.Plain.{unbound_references}
-use Rattle.view_lowering.specs.Promised.Questions.{variable_kinds, IsQuestion}
-use Rattle.view_lowering.specs.Promised.SeenWorlds.{unbound_reference}
+use Rattle.text_lowering.specs.Plain.{unbound_references}
+use Rattle.text_lowering.specs.Promised.Questions.{variable_kinds, IsQuestion}
+use Rattle.text_lowering.specs.Promised.SeenWorlds.{unbound_reference}
 use Rattle.sessions.specs.Asking.{goal_alone}
 use Rattle.sessions.specs.Promised.OwnValues.{HasNoParameter}
 use Rattle.sessions.specs.Promised.Promises.{view_in}

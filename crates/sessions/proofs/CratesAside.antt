@@ -19,7 +19,7 @@ use Rattle.overlap_check.specs.Orphans.{IsFirstError}
 use Rattle.overlap_check.specs.Promised.Errors.{error_in}
 use Rattle.type_terms.specs.Promised.Verdicts.{KeepsOrphanRule, IsFirstOrphan}
 use Rattle.text_language.specs.Promised.Declarations.{Declarations}
-use Rattle.view_lowering.specs.Seen.{rules_seen_from}
+use Rattle.text_lowering.specs.Seen.{rules_seen_from}
 use Rattle.sessions.specs.Promised.Promises.{view_in}
 
 module _ (V : World) (cs : List CrateDecl) where

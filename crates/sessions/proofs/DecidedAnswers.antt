@@ -19,9 +19,9 @@ use Rattle.goal_evaluator.specs.Tables.{frame_tables}
 use Rattle.solver_graph.specs.declared.context.SolverCx.{SolverCx}
 use Rattle.solver_graph.specs.Searching.{handles}
 use Rattle.text_language.specs.Promised.Declarations.{Declarations, Question}
-use Rattle.view_lowering.specs.Promised.SeenWorlds.{all_kept, plain_reference, unbound_reference}
-use Rattle.view_lowering.specs.Plain.{unbound_references}
-use Rattle.view_lowering.specs.Promised.Questions.{IsQuestion}
+use Rattle.text_lowering.specs.Promised.SeenWorlds.{all_kept, plain_reference, unbound_reference}
+use Rattle.text_lowering.specs.Plain.{unbound_references}
+use Rattle.text_lowering.specs.Promised.Questions.{IsQuestion}
 use Rattle.candidate_model.specs.Meaning.{SelfTypesBegin}
 use Rattle.candidate_model.proofs.ErasedCandidates.{without_lifetimes}
 use Rattle.candidate_assembly.specs.declared.solver.Solver.{Solver}

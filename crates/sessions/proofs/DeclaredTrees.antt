@@ -8,7 +8,7 @@ use Rattle.type_terms.specs.Promised.Versions.{well_written, label_allowed, labe
 use Rattle.type_terms.specs.Made.{Standing, terms, bounds, traits, is_made}
 use Rattle.type_terms.proofs.Made.{left, right, both, false-true, no-tree, made-ordinary, last-bound, last-trait, never-dynamic, never-dynamic-bound, never-principal}
 use Rattle.candidate_model.specs.Declared.{is_declared_leaf}
-use Rattle.view_lowering.proofs.Trees.{or}
+use Rattle.text_lowering.proofs.Trees.{or}
 use Rattle.sessions.proofs.TextTerms.{Scope, IsStructAt, IsTraitAt, TextNode, TextNodes}
 use Rattle.type_terms.specs.Promised.Supers.{no_param, dyns_of_bounds}
 

@@ -12,7 +12,7 @@ use Rattle.type_terms.proofs.TermRules.{filter-map}
 use Rattle.goal_evaluator.specs.Promised.Widths.{count, width, with_self}
 use Rattle.goal_evaluator.proofs.Widths.{count-append}
 use Rattle.candidate_model.specs.Promised.Widths.{clauses_in, declared_width, greatest, supers_of, supertraits_in, width_of}
-use Rattle.view_lowering.specs.Promised.SeenWorlds.{plain_reference}
+use Rattle.text_lowering.specs.Promised.SeenWorlds.{plain_reference}
 use Rattle.sessions.proofs.SeenPlainly.{reference-erased}
 use Rattle.type_terms.proofs.ListBasics.{map-length as length-map}
 

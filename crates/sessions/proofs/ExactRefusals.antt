@@ -21,11 +21,11 @@ use Rattle.goal_evaluator.specs.Tables.{frame_tables}
 use Rattle.solver_graph.specs.declared.context.SolverCx.{SolverCx}
 use Rattle.solver_graph.specs.Searching.{handles}
 use Rattle.text_language.specs.Promised.Declarations.{Declarations, Question}
-use Rattle.view_lowering.specs.Promised.SeenWorlds.{plain_label, plain, all_kept, unbound_reference}
-use Rattle.view_lowering.specs.Promised.Questions.{IsQuestion}
-use Rattle.view_lowering.specs.Promised.Questions.{variable_kinds}
-use Rattle.view_lowering.specs.QuestionVariables.{is_undeclared_variable, HasVariablesAlone}
-use Rattle.view_lowering.specs.Ready.{AreSeen}
+use Rattle.text_lowering.specs.Promised.SeenWorlds.{plain_label, plain, all_kept, unbound_reference}
+use Rattle.text_lowering.specs.Promised.Questions.{IsQuestion}
+use Rattle.text_lowering.specs.Promised.Questions.{variable_kinds}
+use Rattle.text_lowering.specs.QuestionVariables.{is_undeclared_variable, HasVariablesAlone}
+use Rattle.text_lowering.specs.Ready.{AreSeen}
 use Rattle.candidate_model.specs.Meaning.{SelfTypesBegin}
 use Rattle.candidate_assembly.specs.declared.solver.Solver.{Solver}
 use Rattle.candidate_assembly.specs.Solving.{Solving}

@@ -43,7 +43,7 @@ use Rattle.text_language.specs.Promised.Declarations.{Declarations}
 use Rattle.sessions.specs.Checking.{HaveOwnNumbers, ArePassedAt, rules_in, solving_in}
 use Rattle.sessions.specs.FixedGoals.{IsRefutedIn, is_goal, AreRefutedAsNoted, IsGoalAt, AreGoalsAt, RestsSince}
 use Rattle.sessions.specs.declared.fixed_goals.FixedAnswers.{FixedAnswers}
-use Rattle.sessions.specs.Impossible.{HasNoProofInWorlds, resolved_alone}
+use Rattle.pair_checks.specs.Impossible.{HasNoProofInWorlds, resolved_alone}
 use Rattle.sessions.specs.Promised.Promises.{view_in}
 use Rattle.sessions.specs.Resting.{Cached}
 use Rattle.sessions.specs.Sessions.{IsSession, SolverRests}

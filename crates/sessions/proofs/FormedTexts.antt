@@ -26,11 +26,11 @@ use Rattle.text_language.specs.Text.{LineGives, other_byte, blank, unwritten, fa
 use Rattle.text_lines.specs.Faultless.{UsesFit, names_crate}
 use Rattle.text_lines.proofs.NoFault.{passes-tests, belongs-to-crate, uses-crates}
 use Rattle.text_lines.proofs.FittingUses.{faultless-uses}
-use Rattle.view_lowering.proofs.Applied.{each-more, still-there}
-use Rattle.view_lowering.proofs.ScalarTokens.{ScalarBounds, ScalarClause, ScalarClauses, struct-scalars, trait-scalars, impl-scalars, prove-scalars, refute-scalars}
-use Rattle.view_lowering.proofs.Scalars.{ScalarTypes, ScalarArgs}
-use Rattle.view_lowering.proofs.Standing.{AutosAreBare}
-use Rattle.view_lowering.proofs.Texts.{Well, is_bare, autos-bare, line-added, core-well}
+use Rattle.text_lowering.proofs.Applied.{each-more, still-there}
+use Rattle.text_lowering.proofs.ScalarTokens.{ScalarBounds, ScalarClause, ScalarClauses, struct-scalars, trait-scalars, impl-scalars, prove-scalars, refute-scalars}
+use Rattle.text_lowering.proofs.Scalars.{ScalarTypes, ScalarArgs}
+use Rattle.text_lowering.proofs.Standing.{AutosAreBare}
+use Rattle.text_lowering.proofs.Texts.{Well, is_bare, autos-bare, line-added, core-well}
 use Rattle.sessions.proofs.Seeing.{seen-more}
 use Rattle.sessions.proofs.TextTerms.{Scope, IsStructAt, IsTraitAt, TextNode, TextNodes, IsPlaced, scope_of, nodes-append, FitSeen, first-seen, rest-seen, tail-seen, trait-used, type-sorts, args-sorts, type-nodes, args-nodes}
 use Rattle.declarations.proofs.Growth.{each-kept as each-map}

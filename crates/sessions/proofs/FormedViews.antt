@@ -25,18 +25,18 @@ use Rattle.declarations.specs.Promised.Elaboration.{Each}
 use Rattle.text_language.specs.Promised.Declarations as text
 use Rattle.text_language.specs.Promised.Declarations.{NamedCrate, NamedStruct, NamedTrait, NamedImpl, world_of}
 use Rattle.text_language.specs.Declarations.{nothing_declared}
-use Rattle.view_lowering.specs.Promised.SeenWorlds.{plain_label, plain, plain_reference, plain_struct, plain_trait, plain_impl, all_kept, none_kept, stands_in, unbound_reference}
-use Rattle.view_lowering.specs.Seen.{struct_sorts, trait_sorts}
+use Rattle.text_lowering.specs.Promised.SeenWorlds.{plain_label, plain, plain_reference, plain_struct, plain_trait, plain_impl, all_kept, none_kept, stands_in, unbound_reference}
+use Rattle.text_lowering.specs.Seen.{struct_sorts, trait_sorts}
 use Rattle.candidate_model.specs.Asking.{next_of}
 use Rattle.candidate_model.specs.DeclaredWell.{are_distinct, is_single}
-use Rattle.view_lowering.specs.Ready.{AreSeen, OfTexts}
-use Rattle.view_lowering.proofs.Matched.{IsItem, each-placed, items-matched}
-use Rattle.view_lowering.proofs.Sorts.{is_bad}
-use Rattle.view_lowering.proofs.Spoken.{plain-sorts}
-use Rattle.view_lowering.proofs.Tests.{is_good, is_good_struct, is_good_trait}
-use Rattle.view_lowering.proofs.Texts.{Well, is_bare, is_nil}
-use Rattle.view_lowering.proofs.Trees.{and-left, or-left}
-use Rattle.view_lowering.proofs.SeenViews.{good-fits, sort-there}
+use Rattle.text_lowering.specs.Ready.{AreSeen, OfTexts}
+use Rattle.text_lowering.proofs.Matched.{IsItem, each-placed, items-matched}
+use Rattle.text_lowering.proofs.Sorts.{is_bad}
+use Rattle.text_lowering.proofs.Spoken.{plain-sorts}
+use Rattle.text_lowering.proofs.Tests.{is_good, is_good_struct, is_good_trait}
+use Rattle.text_lowering.proofs.Texts.{Well, is_bare, is_nil}
+use Rattle.text_lowering.proofs.Trees.{and-left, or-left}
+use Rattle.text_lowering.proofs.SeenViews.{good-fits, sort-there}
 use Rattle.solver_completeness.specs.GoalSets.{begins_typed}
 use Rattle.solver_completeness.specs.FormedFacts.{Sorts, EachNode, AreTypeSorts, IsParamOf, HasParams, IsTraitOf, FitsNode, NodesFit, IsField, IsFormedBound, IsFormedView, FitsSorts}
 use Rattle.sessions.specs.Fitting.{sorts_in}

@@ -45,9 +45,9 @@ use Rattle.solver_graph.specs.Lawful.{solver-lawful}
 use Rattle.solver_graph.specs.Roots.{values_in}
 use Rattle.solver_graph.specs.Searching.{solver_meaning}
 use Rattle.text_language.specs.Promised.Declarations.{Declarations, Question}
-use Rattle.view_lowering.specs.Promised.SeenWorlds.{all_kept, plainly_seen_from, unbound_reference}
-use Rattle.view_lowering.specs.Plain.{unbound_references}
-use Rattle.view_lowering.specs.Promised.Questions.{variable_kinds}
+use Rattle.text_lowering.specs.Promised.SeenWorlds.{all_kept, plainly_seen_from, unbound_reference}
+use Rattle.text_lowering.specs.Plain.{unbound_references}
+use Rattle.text_lowering.specs.Promised.Questions.{variable_kinds}
 use Rattle.sessions.specs.Asking.{asked_alone, goal_alone}
 use Rattle.sessions.specs.Promised.FrameBounds.{most_frames}
 use Rattle.sessions.specs.Goals.{goal_of}

@@ -10,7 +10,7 @@ use Rattle.type_terms.proofs.Fitting.{child-shut, next-shut, not-true, or-no}
 use Rattle.infer_table.specs.Solutions.{Assignment, instance, IsSorted}
 use Rattle.infer_table.proofs.SolutionLaws.{is_sort-equal}
 use Rattle.type_terms.specs.Promised.Questions.{FitKinds, of_kind, filled}
-use Rattle.view_lowering.specs.QuestionVariables.{number_of, is_undeclared_variable}
+use Rattle.text_lowering.specs.QuestionVariables.{number_of, is_undeclared_variable}
 use Rattle.type_terms.proofs.Matching.{or-false-left as no-left}
 use Rattle.type_terms.proofs.TermBasics.{is_sort-self}
 use Rattle.overlap_check.proofs.Filling.{node}

@@ -13,8 +13,8 @@ use Rattle.declarations.specs.Held.{ReferenceHeld}
 use Rattle.declarations.specs.Items.{reference_in}
 use Rattle.candidate_assembly.specs.Solving.{Solving}
 use Rattle.text_language.specs.Promised.Declarations.{Question}
-use Rattle.view_lowering.specs.Promised.SeenWorlds.{unbound_reference}
-use Rattle.view_lowering.specs.Plain.{unbound_references}
+use Rattle.text_lowering.specs.Promised.SeenWorlds.{unbound_reference}
+use Rattle.text_lowering.specs.Plain.{unbound_references}
 use Rattle.sessions.specs.Foreign.{IsOwnAnswer}
 use Rattle.sessions.specs.Promised.Given.{AnswerValuesHeld}
 use Rattle.sessions.specs.Proving.{IsAnsweredInSearch, IsAnsweredBySolver, speak_of_own}

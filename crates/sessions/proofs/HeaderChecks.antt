@@ -1,6 +1,7 @@
 -- The supertraits of headers, asked for one after the other, and what is said of a session's impls by rising number.
 use Rattle.std.proofs.Common.{◌≡◌, ◌<◌, ◌≤◌, ◌+◌, ◌-◌, ◌++◌, ℕ, zero, suc, List, [], ◌∷◌, map, take, get_or, length, Some, None, refl, sym, ap, ◌∙◌, subst, arith}
 use Rattle.std.proofs.lemmas.List.{take_more}
+use Rattle.std.proofs.lemmas.Option.{slice_get-get_or}
 use Rattle.std.specs.Prelude.{slice_get}
 use Rattle.type_terms.specs.Promised.Proofs.{Every}
 use Rattle.type_terms.specs.Promised.Supers.{IsHeld}
@@ -16,7 +17,7 @@ use Rattle.text_language.specs.Promised.Declarations.{Declarations}
 use Rattle.candidate_assembly.specs.Fitting.{solving_of}
 use Rattle.candidate_assembly.specs.Solving.{Solving}
 use Rattle.candidate_assembly.specs.declared.solver.Solver.{Solver}
-use Rattle.workspace.specs.Numbered.{IsNumbered}
+use Rattle.text_tables.specs.Numbered.{IsNumbered}
 use Rattle.sessions.specs.Promised.Promises.{view_in}
 use Rattle.sessions.specs.Promised.Releases.{StopsAt, StopsIn}
 use Rattle.sessions.specs.Resting.{Cached}
@@ -32,11 +33,6 @@ use Rattle.sessions.proofs.CheckedSubjects.{one-more}
 use Rattle.sessions.proofs.ImplNumbers.{names-below}
 use Rattle.type_terms.proofs.ListBasics.{take-map}
 use Rattle.goal_evaluator.proofs.Contexts.{every-more as every-last}
-
-pub there-at : {A : Type 0} (xs : List A) (i : ℕ) (d : A) → i < length xs → slice_get xs i ≡ Some (get_or xs i d)
-there-at [] i d l = absurd (omega arith)
-there-at (x ∷ xs) zero d l = refl
-there-at (x ∷ xs) (suc i) d l = there-at xs i d (omega arith)
 
 pub get-map : {A B : Type 0} (f : A → B) (xs : List A) (n : ℕ) (x : A) → slice_get xs n ≡ Some x → slice_get (map f xs) n ≡ Some (f x)
 get-map f [] n x e = absurd cc
@@ -72,7 +68,7 @@ module _ (s : Solving) (depth : ℕ) (F : List Reference) (es : List Entry) (xs 
   first-told n e o h p = subst (λ m. IsFirstTold s depth F rs m o) (sym e) (record {
     counted = omega arith;
     super = reference_in es x;
-    at = subst (λ m. slice_get rs m ≡ Some (reference_in es x)) (sym (back i)) (get-map (reference_in es) xs i x (there-at xs i x l ∙ ap Some (sym is)));
+    at = subst (λ m. slice_get rs m ≡ Some (reference_in es x)) (sym (back i)) (get-map (reference_in es) xs i x (slice_get-get_or xs i x l ∙ ap Some (sym is)));
     before = subst (λ m. Every IsProved (take m rs)) (sym (back i)) h;
     told = p;
   })

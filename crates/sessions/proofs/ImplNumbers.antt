@@ -11,8 +11,8 @@ use Rattle.type_terms.specs.Promised.Handles.{Entry}
 use Rattle.declarations.specs.Items.{Items, HeldImpl, IsAbove, declared, impl_in}
 use Rattle.declarations.specs.Promised.Elaboration.{Each}
 use Rattle.text_language.specs.Promised.Declarations.{Declarations, NamedImpl, world_of}
-use Rattle.view_lowering.specs.Seen.{rules_seen_from}
-use Rattle.workspace.specs.Numbered.{IsNumbered}
+use Rattle.text_lowering.specs.Seen.{rules_seen_from}
+use Rattle.text_tables.specs.Numbered.{IsNumbered}
 use Rattle.sessions.specs.Checking.{HaveOwnNumbers}
 use Rattle.sessions.specs.Numbers.{ImplsAreNumbered}
 use Rattle.sessions.proofs.SeenPlainly.{rules-are}

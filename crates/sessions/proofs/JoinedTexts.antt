@@ -30,10 +30,10 @@ use Rattle.candidate_model.specs.DeclaredWell.{is_single}
 use Rattle.type_terms.specs.Made.{terms, is_made}
 use Rattle.text_language.specs.Promised.Declarations.{Declarations, NamedCrate, NamedStruct, NamedTrait, NamedImpl, world_of}
 use Rattle.text_language.specs.Declarations.{nothing_declared}
-use Rattle.view_lowering.specs.Promised.SeenWorlds.{plain, all_kept, none_kept, stands_in}
-use Rattle.view_lowering.specs.Seen.{param_sorts}
-use Rattle.view_lowering.proofs.Tests.{is_good, is_good_struct, is_good_trait, is_good_impl, all_stand}
-use Rattle.view_lowering.proofs.Trees.{and, and-left, and-right}
+use Rattle.text_lowering.specs.Promised.SeenWorlds.{plain, all_kept, none_kept, stands_in}
+use Rattle.text_lowering.specs.Seen.{param_sorts}
+use Rattle.text_lowering.proofs.Tests.{is_good, is_good_struct, is_good_trait, is_good_impl, all_stand}
+use Rattle.text_lowering.proofs.Trees.{and, and-left, and-right}
 use Rattle.type_terms.specs.Promised.Supers.{dyns_of_bounds, mentions_as}
 use Rattle.type_terms.proofs.JoinedParts.{TraitObeys, ImplObeys, all-obey}
 use Rattle.sessions.specs.Promised.CoherentTexts.{text_world}
@@ -49,7 +49,7 @@ use Rattle.sessions.proofs.RisingBounds.{Rises}
 use Rattle.sessions.proofs.KeptTexts.{AtHome, HeaderKept, ImplRises, AllKept, texts-are-kept}
 use Rattle.text_language.proofs.SameTexts.{text-gives}
 use Rattle.declarations.proofs.Growth.{each-kept as each-map}
-use Rattle.workspace.proofs.Each.{slice_get-there as within}
+use Rattle.text_tables.proofs.Each.{slice_get-there as within}
 
 -- ---- lists
 pub map-at : {A B : Type 0} (f : A → B) (xs : List A) (y : B) → In y (map f xs) → (k : ℕ) × (x : A) × (slice_get xs k ≡ Some x) × (y ≡ f x)

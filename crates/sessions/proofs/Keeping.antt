@@ -20,14 +20,14 @@ use Rattle.solver_graph.specs.Contexts.{entries_of, IsReady as IsReadyContext, K
 use Rattle.solver_graph.specs.Evaluations.{IsFoundBySearch}
 use Rattle.solver_graph.specs.Searching.{solver_meaning, of_limits}
 use Rattle.text_language.specs.Promised.Declarations.{Declarations, Question}
-use Rattle.view_lowering.specs.Promised.SeenWorlds.{plainly_seen_from, unbound_reference}
-use Rattle.view_lowering.specs.Seen.{rules_seen_from}
+use Rattle.text_lowering.specs.Promised.SeenWorlds.{plainly_seen_from, unbound_reference}
+use Rattle.text_lowering.specs.Seen.{rules_seen_from}
 use Rattle.candidate_assembly.specs.declared.solver.Solver.{Solver}
 use Rattle.candidate_assembly.specs.Fitting.{solving_of}
 use Rattle.candidate_assembly.specs.Ready.{AreReadyDeclarations}
 use Rattle.candidate_assembly.specs.Solving.{Solving, solver_for, meaning_for}
-use Rattle.view_lowering.specs.Ready.{AreSeen}
-use Rattle.view_lowering.specs.QuestionVariables.{HasVariablesAlone, RefutationsHaveVariablesAlone}
+use Rattle.text_lowering.specs.Ready.{AreSeen}
+use Rattle.text_lowering.specs.QuestionVariables.{HasVariablesAlone, RefutationsHaveVariablesAlone}
 use Rattle.goal_frames.specs.Meanings.{HandlerMeaning}
 use Rattle.candidate_assembly.specs.SolverMeaning.{solver_by_view}
 use Rattle.sessions.specs.declared.answers.RefuteAnswer.{RefuteAnswer}

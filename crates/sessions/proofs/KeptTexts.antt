@@ -25,9 +25,9 @@ use Rattle.text_language.specs.Written.{IsWritten}
 use Rattle.text_language.specs.Text.{LineGives, other_byte, blank, unwritten, faulty, adds, LinesGive, ends, fails, goes_on, TextGives, too_long, fits}
 use Rattle.text_lines.proofs.NoFault.{passes-tests, belongs-to-crate, uses-crates}
 use Rattle.text_lines.proofs.FittingUses.{faultless-uses}
-use Rattle.view_lowering.proofs.Applied.{each-more, still-there}
-use Rattle.view_lowering.proofs.Texts.{Well, AtPlaces, autos-bare, line-added, core-well}
-use Rattle.view_lowering.proofs.Trees.{and-left, and-right, or-left}
+use Rattle.text_lowering.proofs.Applied.{each-more, still-there}
+use Rattle.text_lowering.proofs.Texts.{Well, AtPlaces, autos-bare, line-added, core-well}
+use Rattle.text_lowering.proofs.Trees.{and-left, and-right, or-left}
 use Rattle.type_terms.proofs.Made.{false-true}
 use Rattle.sessions.proofs.Seeing.{seen-more}
 use Rattle.sessions.proofs.TextTerms.{scope_of, trait-used, found-placed}

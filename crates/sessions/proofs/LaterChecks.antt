@@ -17,12 +17,12 @@ use Rattle.declarations.specs.Items.{declared}
 use Rattle.declarations.proofs.Growth.{all-declared}
 use Rattle.declarations.specs.declared.items.ImplDef.{ImplDef}
 use Rattle.text_language.specs.Promised.Declarations.{Declarations, NamedImpl, LaterImpl, section_impls}
-use Rattle.view_lowering.specs.Later.{added_impls, added_in, unnumbered}
+use Rattle.text_lowering.specs.Later.{added_impls, added_in, unnumbered}
 use Rattle.solver_graph.specs.declared.context.SolverCx.{SolverCx}
 use Rattle.solver_graph.specs.Contexts.{entries_of}
 use Rattle.candidate_assembly.specs.declared.solver.Solver.{Solver}
-use Rattle.view_lowering.specs.Promised.SeenWorlds.{plain_impl, all_kept}
-use Rattle.view_lowering.specs.Seen.{rules_seen_from}
+use Rattle.text_lowering.specs.Promised.SeenWorlds.{plain_impl, all_kept}
+use Rattle.text_lowering.specs.Seen.{rules_seen_from}
 use Rattle.sessions.specs.Checking.{IsReadySolver, SolverStaysReady, rules_in}
 use Rattle.sessions.specs.Promised.Given.{later_of}
 use Rattle.sessions.specs.Later.{header_in, section_headers, MayAdd, IsFirstRefused, IsAnswerOn}

@@ -2,7 +2,7 @@
 use Rattle.std.proofs.Common.{◌≡◌, ℕ, refl, sym, ap, ◌∙◌, subst}
 use Rattle.type_terms.specs.Terms.{Terms}
 use Rattle.text_language.specs.Promised.Declarations.{Declarations, Question}
-use Rattle.workspace.specs.Tables.{with_question}
+use Rattle.text_tables.specs.Tables.{with_question}
 use Rattle.candidate_assembly.specs.Solving.{Solving}
 use Rattle.candidate_assembly.specs.declared.solver.Solver.{Solver}
 use Rattle.sessions.specs.LeftSessions.{IsLeftSession, LeavesView}

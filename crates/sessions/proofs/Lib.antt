@@ -15,8 +15,6 @@ pub mod Filling
 pub mod Itself
 pub mod Proved
 pub mod Resolved
-pub mod ImpossibleAlone
-pub mod Lists
 mod Fitting
 mod Seeing
 mod TextTerms
@@ -81,10 +79,6 @@ pub mod OpaqueImpls
 pub mod OpaqueFound
 pub mod HeaderChecks
 pub mod SupertraitAnswers
-mod ErasedHeads
-pub mod TraitLists
-pub mod ByTrait
-pub mod Matching
 pub mod Partners
 pub mod DeclaredTrees
 mod CoveredClauses
@@ -117,4 +111,4 @@ pub use Rattle.solver_graph.proofs as SolverGraph
 pub use Rattle.text_language.proofs as TextLanguage
 pub use Rattle.text_lines.proofs as TextLines
 pub use Rattle.type_terms.proofs as TypeTerms
-pub use Rattle.view_lowering.proofs as ViewLowering
+pub use Rattle.text_lowering.proofs as TextLowering

@@ -21,8 +21,8 @@ use Rattle.candidate_model.proofs.DeclaredParts.{header-declared, clause-declare
 use Rattle.candidate_model.proofs.DeclaredWell.{tests-tell}
 use Rattle.candidate_model.proofs.Instances.{is_bound}
 use Rattle.candidate_assembly.specs.Solving.{Solving}
-use Rattle.view_lowering.specs.Ready.{AreSeen}
-use Rattle.view_lowering.proofs.WellSeen.{texts-seen-well}
+use Rattle.text_lowering.specs.Ready.{AreSeen}
+use Rattle.text_lowering.proofs.WellSeen.{texts-seen-well}
 use Rattle.solver_completeness.specs.FormedFacts.{Sorts, FitsSorts, IsFormedView}
 use Rattle.sessions.specs.Fitting.{sorts_in}
 use Rattle.sessions.specs.Questions.{AreFixedReferences, IsFormedAsWritten}

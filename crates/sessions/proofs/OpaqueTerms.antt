@@ -22,7 +22,7 @@ use Rattle.candidate_model.specs.Declared.{is_declared_leaf}
 use Rattle.overlap_check.specs.Fresh.{HasArguments}
 use Rattle.solver_completeness.specs.FormedFacts.{Sorts, NodesFit}
 use Rattle.solver_completeness.proofs.FormedInstances.{node-same}
-use Rattle.view_lowering.specs.Promised.SeenWorlds.{plain, plain_reference}
+use Rattle.text_lowering.specs.Promised.SeenWorlds.{plain, plain_reference}
 use Rattle.sessions.specs.Goals.{is_fixed}
 use Rattle.sessions.specs.Placeholders.{placeholders_from}
 use Rattle.sessions.proofs.SeenPlainly.{plain-erased}

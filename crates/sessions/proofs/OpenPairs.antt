@@ -15,7 +15,7 @@ use Rattle.declarations.specs.Promised.Elaboration.{Each}
 use Rattle.declarations.specs.declared.items.ImplDef.{ImplDef}
 use Rattle.overlap_check.specs.Orphans.{AreWrittenWell, HeaderHoldsParams}
 use Rattle.overlap_check.specs.Written.{IsWrittenWell}
-use Rattle.view_lowering.specs.Promised.SeenWorlds.{plainly_seen_from}
+use Rattle.text_lowering.specs.Promised.SeenWorlds.{plainly_seen_from}
 use Rattle.candidate_assembly.specs.Fitting.{solving_of}
 use Rattle.candidate_assembly.specs.Ready.{AreReadyDeclarations}
 use Rattle.sessions.specs.Fitting.{sorts_in}

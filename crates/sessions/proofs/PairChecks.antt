@@ -57,7 +57,7 @@ use Rattle.text_language.specs.Promised.Declarations.{Declarations}
 use Rattle.candidate_assembly.specs.SolverMeaning.{solver_by_view}
 use Rattle.sessions.specs.Asking.{IsLeftOpen}
 use Rattle.sessions.specs.Checking.{IsPairOf, HaveOwnNumbers, AreApartAt, IsFoundAt, ArePassedAt, IsJudgedAt, ReadyAreWritten, rules_in, solving_in}
-use Rattle.sessions.specs.Impossible as Impossible
+use Rattle.pair_checks.specs.Impossible as Impossible
 use Rattle.sessions.specs.OpenPairs.{OpenPairGoalsArePossible}
 use Rattle.sessions.specs.PairGoals.{as_resolved}
 use Rattle.sessions.specs.Promised.Promises.{view_in}

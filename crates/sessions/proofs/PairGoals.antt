@@ -34,8 +34,8 @@ use Rattle.overlap_check.specs.Headers.{sorts_of_impl, unknowns_for, with_unknow
 use Rattle.overlap_check.specs.declared.intersection.ImplIntersection.{ImplIntersection}
 use Rattle.overlap_check.proofs.Headers.{pair-values}
 use Rattle.overlap_check.proofs.Written.{held-instantiable}
-use Rattle.view_lowering.specs.Promised.SeenWorlds.{plainly_seen_from}
-use Rattle.view_lowering.proofs.WellSeen.{texts-seen-well}
+use Rattle.text_lowering.specs.Promised.SeenWorlds.{plainly_seen_from}
+use Rattle.text_lowering.proofs.WellSeen.{texts-seen-well}
 use Rattle.solver_completeness.specs.FormedFacts.{Sorts, NodesFit, IsTraitOf, IsFormedView}
 use Rattle.sessions.specs.Fitting.{sorts_in}
 use Rattle.sessions.specs.Goals.{stands_free, HasFormedTerms}

@@ -32,9 +32,9 @@ use Rattle.overlap_check.specs.Headers.{IsOfTable, resolved_reference}
 use Rattle.type_terms.specs.Promised.Questions.{FitKinds, of_kind, filled, filled_reference}
 use Rattle.overlap_check.proofs.Posed.{values-are-of-solutions}
 use Rattle.overlap_check.proofs.Solved.{ready-facts}
-use Rattle.view_lowering.specs.QuestionVariables.{number_of}
+use Rattle.text_lowering.specs.QuestionVariables.{number_of}
 use Rattle.sessions.specs.Asking.{goal_alone}
-use Rattle.sessions.specs.Impossible.{resolved_alone, HasNoProofInWorlds}
+use Rattle.pair_checks.specs.Impossible.{resolved_alone, HasNoProofInWorlds}
 use Rattle.sessions.proofs.Given.{IsPlaced, placed-at}
 use Rattle.type_terms.proofs.Matching.{or-false-left as no-left}
 use Rattle.type_terms.proofs.BooleanBasics.{true-false as no-true}

@@ -6,13 +6,13 @@ use Rattle.type_terms.proofs.Members.{here, there, in-cases, in-nothing, same-nu
 use Rattle.type_terms.specs.declared.ImplId.{ImplId}
 use Rattle.declarations.specs.Promised.Elaboration.{Each}
 use Rattle.overlap_check.specs.SessionLaws.{IsPassed}
-use Rattle.sessions.specs.ByTrait.{HasNumber, ListsImpls, ListsSeen, HavePartnersSeen}
-use Rattle.sessions.specs.Checking.{HasPartner}
+use Rattle.pair_checks.specs.ByTrait.{HasNumber, ListsImpls}
+use Rattle.sessions.specs.Checking.{HasPartner, ListsSeen, HavePartnersSeen}
 use Rattle.sessions.specs.Promised.Promises.{view_in}
 use Rattle.sessions.specs.Promised.Subjects.{Subject, StaysOn}
-use Rattle.sessions.specs.declared.by_trait.ImplsByTrait.{ImplsByTrait}
+use Rattle.pair_checks.specs.declared.by_trait.ImplsByTrait.{ImplsByTrait}
 use Rattle.sessions.proofs.CheckedSubjects.{Passed}
-use Rattle.sessions.proofs.Lists.{in-list}
+use Rattle.pair_checks.proofs.Lists.{in-list}
 
 pub lists-still : (a b : Subject) → StaysOn a b → (m : ImplsByTrait) → ListsSeen a m → ListsSeen b m
 lists-still a b f m h =

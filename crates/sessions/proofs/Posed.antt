@@ -8,7 +8,7 @@ use Rattle.infer_table.specs.Canonical.{HasNoCanonical, kind_of_leaf, leaves, wi
 use Rattle.infer_table.specs.Covers.{AreKnown}
 use Rattle.goal_evaluator.specs.FrameTables.{kinds_known}
 use Rattle.candidate_model.specs.Solver.{has_placeholder}
-use Rattle.view_lowering.specs.QuestionVariables.{number_of, is_undeclared_variable}
+use Rattle.text_lowering.specs.QuestionVariables.{number_of, is_undeclared_variable}
 use Rattle.sessions.specs.Asking.{goal_alone}
 use Rattle.sessions.proofs.Given.{below}
 use Rattle.type_terms.proofs.Matching.{or-false-left as no-left}

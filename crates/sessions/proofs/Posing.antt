@@ -17,7 +17,7 @@ use Rattle.infer_table.specs.declared.goal.Goal.{Goal}
 use Rattle.candidate_assembly.specs.Solving.{Solving}
 use Rattle.text_language.specs.Promised.Declarations.{Question}
 use Rattle.text_language.specs.Names.{own_unknowns}
-use Rattle.view_lowering.specs.Promised.Questions.{variable_kinds}
+use Rattle.text_lowering.specs.Promised.Questions.{variable_kinds}
 use Rattle.sessions.specs.Goals.{goal_of}
 use Rattle.sessions.specs.Proving.{IsAnsweredInSearch, IsGoalAnswered, goal_asking}
 use Rattle.sessions.specs.Questions.{where_clauses}

@@ -36,18 +36,18 @@ use Rattle.candidate_assembly.specs.Solving.{Solving}
 use Rattle.solver_completeness.specs.FormedFacts.{Sorts, IsFormedView}
 use Rattle.candidate_model.specs.DeclaredWell.{IsDeclaredWell, is_declared_well}
 use Rattle.candidate_model.proofs.DeclaredWell.{tests-tell}
-use Rattle.view_lowering.proofs.WellSeen.{texts-seen-well}
+use Rattle.text_lowering.proofs.WellSeen.{texts-seen-well}
 use Rattle.candidate_model.specs.Meaning.{SelfTypesBegin}
 use Rattle.candidate_model.proofs.ErasedCandidates.{without_lifetimes}
 use Rattle.candidate_model.proofs.PlainRules.{Plain}
 use Rattle.text_language.specs.Promised.Declarations.{Declarations, Question, Variable}
-use Rattle.view_lowering.specs.Promised.Questions.{IsQuestion}
+use Rattle.text_lowering.specs.Promised.Questions.{IsQuestion}
 use Rattle.text_language.specs.Names.{own_from}
-use Rattle.view_lowering.specs.Promised.SeenWorlds.{unbound_reference}
-use Rattle.view_lowering.specs.Plain.{unbound_references}
-use Rattle.view_lowering.specs.QuestionVariables.{number_of}
-use Rattle.view_lowering.specs.Promised.Questions.{variable_kinds}
-use Rattle.view_lowering.specs.Ready.{AreSeen}
+use Rattle.text_lowering.specs.Promised.SeenWorlds.{unbound_reference}
+use Rattle.text_lowering.specs.Plain.{unbound_references}
+use Rattle.text_lowering.specs.QuestionVariables.{number_of}
+use Rattle.text_lowering.specs.Promised.Questions.{variable_kinds}
+use Rattle.text_lowering.specs.Ready.{AreSeen}
 use Rattle.type_terms.specs.Promised.Questions.{FitKinds, HoldUnknownsAlone, SolutionBy, IsProveAnswer, yes as answer_yes, filled, filled_reference}
 use Rattle.sessions.specs.Clauses.{AddSupertraits}
 use Rattle.sessions.specs.Fitting.{sorts_in}

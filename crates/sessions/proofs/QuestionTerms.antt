@@ -25,16 +25,16 @@ use Rattle.text_language.specs.Text.{LineGives, other_byte, blank, unwritten, fa
 use Rattle.text_lines.specs.Faultless.{UseFits, UsesFit}
 use Rattle.text_lines.proofs.NoFault.{passes-tests}
 use Rattle.text_lines.proofs.FittingUses.{faultless-uses}
-use Rattle.view_lowering.specs.Promised.SeenWorlds.{plain, plain_label, all_kept, unbound_reference}
-use Rattle.view_lowering.specs.Plain.{unbound_references}
-use Rattle.view_lowering.specs.QuestionVariables.{number_of}
-use Rattle.view_lowering.specs.Promised.Questions.{variable_kinds}
-use Rattle.view_lowering.proofs.Begins.{is_scalar}
-use Rattle.view_lowering.proofs.Variables.{ArePlaced, are-placed}
-use Rattle.view_lowering.proofs.Scalars.{Scalars, ScalarTypes, ScalarArgs, ScalarArg, ScalarItem}
-use Rattle.view_lowering.proofs.ScalarTokens.{ScalarClause, ScalarClauses, prove-scalars, refute-scalars}
-use Rattle.view_lowering.proofs.Applied.{each-more}
-use Rattle.view_lowering.proofs.Trees.{and, and-left, and-right, or-left, or-right}
+use Rattle.text_lowering.specs.Promised.SeenWorlds.{plain, plain_label, all_kept, unbound_reference}
+use Rattle.text_lowering.specs.Plain.{unbound_references}
+use Rattle.text_lowering.specs.QuestionVariables.{number_of}
+use Rattle.text_lowering.specs.Promised.Questions.{variable_kinds}
+use Rattle.text_lowering.proofs.Begins.{is_scalar}
+use Rattle.text_lowering.proofs.Variables.{ArePlaced, are-placed}
+use Rattle.text_lowering.proofs.Scalars.{Scalars, ScalarTypes, ScalarArgs, ScalarArg, ScalarItem}
+use Rattle.text_lowering.proofs.ScalarTokens.{ScalarClause, ScalarClauses, prove-scalars, refute-scalars}
+use Rattle.text_lowering.proofs.Applied.{each-more}
+use Rattle.text_lowering.proofs.Trees.{and, and-left, and-right, or-left, or-right}
 use Rattle.sessions.specs.Goals.{is_fixed, are_fixed}
 use Rattle.text_language.proofs.Basics.{among-first, no-count}
 use Rattle.type_terms.proofs.BooleanBasics.{and-end}

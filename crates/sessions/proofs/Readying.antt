@@ -11,8 +11,8 @@ use Rattle.candidate_model.proofs.DeclaredWell.{tests-tell}
 use Rattle.candidate_assembly.specs.Headers.{var_kind, StandInHeader}
 use Rattle.candidate_assembly.proofs.WellDeclared.{well-declared-have-candidates}
 use Rattle.declarations.specs.Applied.{HaveBounds}
-use Rattle.view_lowering.specs.TextLaws.{TextsAreDeclaredWell}
-use Rattle.view_lowering.specs.Ready.{OfTexts, FieldsSpeak, HeadersTell, kind_of_sort, TellsKinds}
+use Rattle.text_lowering.specs.TextLaws.{TextsAreDeclaredWell}
+use Rattle.text_lowering.specs.Ready.{OfTexts, FieldsSpeak, HeadersTell, kind_of_sort, TellsKinds}
 use Rattle.sessions.specs.Readying.{AreReady}
 use Rattle.declarations.proofs.Growth.{each-kept as each-map}
 use Rattle.declarations.proofs.TypeBasics.{as-long}

@@ -21,10 +21,10 @@ use Rattle.type_terms.specs.Promised.Verdicts.{placed}
 use Rattle.type_terms.specs.Promised.Questions.{FitKinds, filled, filled_reference, SolutionBy, Solution}
 use Rattle.overlap_check.proofs.Filling.{over-filled-reference, over-fit, over-each-closed, node}
 use Rattle.text_language.specs.Promised.Declarations.{Declarations, Question}
-use Rattle.view_lowering.specs.Promised.SeenWorlds.{all_kept, plain, plain_label, unbound_reference}
-use Rattle.view_lowering.specs.Seen.{rules_seen_from}
-use Rattle.view_lowering.specs.Promised.Questions.{variable_kinds}
-use Rattle.view_lowering.specs.QuestionVariables.{HasVariablesAlone}
+use Rattle.text_lowering.specs.Promised.SeenWorlds.{all_kept, plain, plain_label, unbound_reference}
+use Rattle.text_lowering.specs.Seen.{rules_seen_from}
+use Rattle.text_lowering.specs.Promised.Questions.{variable_kinds}
+use Rattle.text_lowering.specs.QuestionVariables.{HasVariablesAlone}
 use Rattle.sessions.specs.Asking.{goal_alone}
 use Rattle.sessions.specs.Promised.Promises.{view_in}
 use Rattle.sessions.specs.Promises.{IsRefutedQuestion}

@@ -16,7 +16,7 @@ use Rattle.type_terms.specs.Promised.Verdicts.{placed}
 use Rattle.type_terms.specs.Promised.Questions.{FitKinds, filled_reference, SolutionBy, Solution, IsRefuted}
 use Rattle.overlap_check.proofs.Filling.{over-filled-reference, over-fit, over-each-closed}
 use Rattle.text_language.specs.Promised.Declarations.{Declarations}
-use Rattle.view_lowering.specs.Seen.{rules_seen_from}
+use Rattle.text_lowering.specs.Seen.{rules_seen_from}
 use Rattle.sessions.specs.Promised.Promises.{view_in}
 use Rattle.sessions.proofs.Refusals.{same-placed}
 

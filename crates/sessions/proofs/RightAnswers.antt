@@ -7,7 +7,7 @@ use Rattle.search_graph.specs.SearchState.{SearchState}
 use Rattle.solver_graph.specs.Contexts.{entries_of}
 use Rattle.solver_graph.specs.declared.context.SolverCx.{SolverCx}
 use Rattle.text_language.specs.Promised.Declarations.{Declarations, Question}
-use Rattle.view_lowering.specs.Promised.Questions.{IsQuestion}
+use Rattle.text_lowering.specs.Promised.Questions.{IsQuestion}
 use Rattle.candidate_assembly.specs.Fitting.{solving_of}
 use Rattle.candidate_assembly.specs.Solving.{Solving}
 use Rattle.candidate_assembly.specs.declared.solver.Solver.{Solver}

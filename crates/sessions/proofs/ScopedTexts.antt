@@ -8,9 +8,9 @@ use Rattle.type_terms.specs.Promised.Erased.{erased_reference}
 use Rattle.type_terms.specs.Promised.Proofs.{In}
 use Rattle.type_terms.specs.Promised.Versions.{sees_struct, sees_trait, label_allowed, label_shaped, well_written, in_scope}
 use Rattle.type_terms.proofs.Members.{in-append, in-filter, filter-in, in-map, some-member, member-some}
-use Rattle.view_lowering.proofs.Trees.{and, and-left, and-right}
+use Rattle.text_lowering.proofs.Trees.{and, and-left, and-right}
 use Rattle.text_language.specs.Promised.Declarations.{Declarations, NamedImpl, LaterImpl}
-use Rattle.view_lowering.proofs.Tests.{is_good_impl}
+use Rattle.text_lowering.proofs.Tests.{is_good_impl}
 use Rattle.type_terms.proofs.NoHolds.{member-each}
 use Rattle.sessions.specs.Promised.CoherentTexts.{text_world}
 use Rattle.sessions.specs.ScopedTexts.{written_impls, IsInScope, ImplsAreInScope}

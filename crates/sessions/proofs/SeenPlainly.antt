@@ -16,18 +16,18 @@ use Rattle.text_language.specs.Promised.Declarations.{NamedImpl, world_of}
 use Rattle.text_language.specs.Text.{TextGives}
 use Rattle.candidate_model.specs.Declared.{is_lifetime_parameter}
 use Rattle.candidate_model.specs.Meaning.{SelfTypesBegin}
-use Rattle.view_lowering.specs.Promised.SeenWorlds.{plain, plain_reference, plain_struct, plain_trait, plain_impl, plain_world, plainly_seen_from, all_kept, none_kept, stands_in}
-use Rattle.view_lowering.specs.Promised.SeenWorlds.{seen_from}
-use Rattle.view_lowering.specs.Seen.{rules_seen_from}
-use Rattle.view_lowering.proofs.Begins.{texts-begin}
-use Rattle.view_lowering.proofs.SeenViews.{none-left}
+use Rattle.text_lowering.specs.Promised.SeenWorlds.{plain, plain_reference, plain_struct, plain_trait, plain_impl, plain_world, plainly_seen_from, all_kept, none_kept, stands_in}
+use Rattle.text_lowering.specs.Promised.SeenWorlds.{seen_from}
+use Rattle.text_lowering.specs.Seen.{rules_seen_from}
+use Rattle.text_lowering.proofs.Begins.{texts-begin}
+use Rattle.text_lowering.proofs.SeenViews.{none-left}
 use Rattle.sessions.proofs.FormedViews.{map-in}
 use Rattle.sessions.proofs.WithoutLifetimes.{FieldsAreErased}
 use Rattle.type_terms.proofs.RenumberedRules.{cons-same as two}
 use Rattle.type_terms.proofs.TermBasics.{three as node}
-use Rattle.view_lowering.proofs.Plainly.{begins-plain, struct-erased, trait-erased}
-use Rattle.view_lowering.proofs.Basics.{label-erased}
-pub use Rattle.view_lowering.proofs.Plainly.{map-again, reference-erased}
+use Rattle.text_lowering.proofs.Plainly.{begins-plain, struct-erased, trait-erased}
+use Rattle.text_lowering.proofs.Basics.{label-erased}
+pub use Rattle.text_lowering.proofs.Plainly.{map-again, reference-erased}
 
 -- ---- up to lifetimes nothing changes
 pub plain-erased : (k : ℕ → Bool) (t : Trees) → erase (plain k t) ≡ erase t

@@ -8,8 +8,8 @@ use Rattle.type_terms.specs.Promised.Worlds.{sees}
 use Rattle.search_graph.specs.SearchState.{SearchState}
 use Rattle.declarations.specs.Items.{Items}
 use Rattle.text_language.specs.Promised.Declarations.{Declarations, NamedStruct, NamedTrait, NamedImpl, world_of}
-use Rattle.view_lowering.specs.Behind.{from_difference, most_new_terms}
-use Rattle.view_lowering.specs.MostTerms.{most_terms, struct_terms_seen, trait_terms_seen, impl_terms_seen}
+use Rattle.text_lowering.specs.Behind.{from_difference, most_new_terms}
+use Rattle.text_lowering.specs.MostTerms.{most_terms, struct_terms_seen, trait_terms_seen, impl_terms_seen}
 use Rattle.goal_frames.specs.Stores.{limit_of}
 use Rattle.solver_graph.specs.Contexts.{IsReady as IsReadyContext}
 use Rattle.solver_graph.specs.declared.context.SolverCx.{SolverCx}

@@ -1,5 +1,5 @@
 -- Why calls answer `Full`, from what their parts say.
-use Rattle.std.proofs.Common.{◌≡◌, ◌≤◌, inl, inr, ℕ, List, length, Result, Ok, Err, refl, sym, ap, ◌∙◌, subst, arith}
+use Rattle.std.proofs.Common.{◌≡◌, ◌≤◌, inl, inr, ℕ, List, length, Result, Ok, Err, refl, sym, ◌∙◌, subst, arith}
 use Rattle.std.specs.Prelude.{◌==◌, IfErr, IsErrAnd}
 use Rattle.std.proofs.lemmas.List.Sums.{count_by-le-length}
 use Rattle.std.proofs.lemmas.Result.{IfErr-weaker}
@@ -9,12 +9,9 @@ use Rattle.type_terms.specs.declared.Fault.{Fault}
 use Rattle.type_terms.specs.Growth.{FullAtLimit}
 use Rattle.goal_frames.specs.Stores.{kept_inputs, kept_responses}
 use Rattle.solver_graph.specs.Contexts.{entries_of}
-use Rattle.solver_graph.specs.Shortages.{ContextIsFull, ContextFullAtLimit, RootFullAtLimit, interner, store}
+use Rattle.solver_graph.specs.Shortages.{ContextIsFull, ContextFullAtLimit, interner, store}
 use Rattle.solver_graph.proofs.Shortages.{handed}
 use Rattle.solver_graph.specs.declared.context.SolverCx.{SolverCx}
-use Rattle.solver_graph.specs.declared.outcome.GoalEvaluation.{GoalEvaluation}
-use Rattle.solver_graph.specs.declared.outcome.RootError.{RootError}
-use Rattle.solver_graph.specs.declared.outcome.RootError.TheVariants as Root
 use Rattle.candidate_assembly.specs.declared.solver.Solver.{Solver}
 use Rattle.sessions.specs.Sessions.{HasLimits}
 use Rattle.sessions.specs.Promised.Shortages.{IsAtLimit, SessionFullAtLimit, terms, goals, answers}
@@ -34,11 +31,6 @@ full-of-terms c x h = λ q. interner (h q)
 
 pub handed-by-terms : {Handler T : Type 0} (c : SolverCx Handler) (r : Result T Fault) {x : Fault} → IsErrAnd r (λ y. y ≡ x) → FullAtLimit c.interner x → IfErr r (ContextFullAtLimit c)
 handed-by-terms c r h f = handed (ContextFullAtLimit c) r h (λ q. interner (f q))
-
--- a fault that is handed out of an evaluation
-pub full-inside : {Handler A : Type 0} (c : SolverCx Handler) (e : Result GoalEvaluation RootError) (r : Result A Fault) → IfErr e (RootFullAtLimit c) → IfErr r (λ fault. e ≡ Err (Root.Fault fault))
-    → IfErr r (ContextFullAtLimit c)
-full-inside c e r h is = IfErr-weaker r (λ fault. e ≡ Err (Root.Fault fault)) (ContextFullAtLimit c) (λ fault same q. subst (λ z. IfErr z (RootFullAtLimit c)) same h (ap Root.Fault q)) is
 
 -- where a kind is full there are so many terms
 pub many-terms : (es : List Entry) (limit n : ℕ) → SomeKindIsFull es limit → length es ≤ n → limit ≤ n

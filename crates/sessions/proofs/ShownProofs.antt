@@ -27,11 +27,11 @@ use Rattle.proof_checker.proofs.Later.{terms-same}
 use Rattle.proof_checker.proofs.Moved.{proof-before}
 use Rattle.proof_checker.specs.declared.steps.Step.{Step}
 use Rattle.text_language.specs.Promised.Declarations.{Declarations, Question}
-use Rattle.view_lowering.specs.Promised.SeenWorlds.{unbound_reference}
-use Rattle.view_lowering.specs.Plain.{unbound_references}
-use Rattle.view_lowering.specs.Promised.Questions.{variable_kinds}
-use Rattle.view_lowering.specs.Promised.Questions.{IsQuestion}
-use Rattle.view_lowering.specs.Seen.{rules_seen_from}
+use Rattle.text_lowering.specs.Promised.SeenWorlds.{unbound_reference}
+use Rattle.text_lowering.specs.Plain.{unbound_references}
+use Rattle.text_lowering.specs.Promised.Questions.{variable_kinds}
+use Rattle.text_lowering.specs.Promised.Questions.{IsQuestion}
+use Rattle.text_lowering.specs.Seen.{rules_seen_from}
 use Rattle.candidate_assembly.specs.Solving.{Solving}
 use Rattle.sessions.specs.Checking.{IsReadySolver, SolverStaysReady, rules_in}
 use Rattle.sessions.specs.Promised.Promises.{view_in}

@@ -12,7 +12,7 @@ use Rattle.text_language.specs.Promised.Declarations as text
 use Rattle.text_language.specs.Promised.Declarations.{NamedTrait, NamedImpl, world_of}
 use Rattle.text_language.specs.Text.{TextGives}
 use Rattle.candidate_model.specs.Solver.{SizedIsBuiltIn}
-use Rattle.view_lowering.specs.Promised.SeenWorlds.{plain_trait, plain_impl, plainly_seen_from}
+use Rattle.text_lowering.specs.Promised.SeenWorlds.{plain_trait, plain_impl, plainly_seen_from}
 use Rattle.sessions.proofs.FormedViews.{each-in, map-in}
 use Rattle.sessions.proofs.KeptTexts.{AllKept, HeaderKept, texts-are-kept}
 

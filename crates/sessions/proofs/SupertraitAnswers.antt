@@ -30,8 +30,8 @@ use Rattle.candidate_model.proofs.ErasedCandidates.{without_lifetimes}
 use Rattle.solver_graph.specs.Roots.{fact_under}
 use Rattle.candidate_assembly.specs.Fitting.{solving_of}
 use Rattle.candidate_assembly.specs.Solving.{Solving}
-use Rattle.view_lowering.specs.Promised.SeenWorlds.{plain_reference, plain_impl, unbound_reference, stands_in}
-use Rattle.view_lowering.specs.Ready.{AreSeen}
+use Rattle.text_lowering.specs.Promised.SeenWorlds.{plain_reference, plain_impl, unbound_reference, stands_in}
+use Rattle.text_lowering.specs.Ready.{AreSeen}
 use Rattle.type_terms.specs.Promised.Questions.{filled_reference}
 use Rattle.sessions.specs.Fitting.{sorts_in}
 use Rattle.sessions.specs.Goals.{goal_of, is_fixed, are_fixed}

@@ -41,8 +41,8 @@ use Rattle.candidate_assembly.specs.Fitting.{solving_of}
 use Rattle.candidate_assembly.specs.Solving.{Solving}
 use Rattle.candidate_assembly.specs.SolverMeaning.{goals_by_view}
 use Rattle.candidate_assembly.specs.SolverLaws.{goals-are-lawful}
-use Rattle.view_lowering.specs.Ready.{AreSeen, OfTexts}
-use Rattle.view_lowering.proofs.WellSeen.{texts-seen-well}
+use Rattle.text_lowering.specs.Ready.{AreSeen, OfTexts}
+use Rattle.text_lowering.proofs.WellSeen.{texts-seen-well}
 use Rattle.solver_graph.specs.Roots.{question_of, values_under}
 use Rattle.solver_completeness.specs.FormedAnswers.{IsFormedGoal, AreDeclared}
 use Rattle.solver_completeness.specs.FormedFacts.{Sorts, IsFormed, IsFormedFact, IsFormedView}

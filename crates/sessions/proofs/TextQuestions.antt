@@ -16,11 +16,11 @@ use Rattle.declarations.specs.Items.{Items, written, reference_in}
 use Rattle.declarations.specs.Promised.Elaboration.{Each}
 use Rattle.text_language.specs.Promised.Declarations as text
 use Rattle.text_language.specs.Text.{TextGives}
-use Rattle.view_lowering.specs.Promised.SeenWorlds.{unbound_reference}
-use Rattle.view_lowering.specs.Plain.{unbound_references}
-use Rattle.view_lowering.specs.Promised.Questions.{variable_kinds}
-use Rattle.view_lowering.specs.Ready.{AreSeen}
-use Rattle.view_lowering.proofs.WellSeen.{texts-seen-well}
+use Rattle.text_lowering.specs.Promised.SeenWorlds.{unbound_reference}
+use Rattle.text_lowering.specs.Plain.{unbound_references}
+use Rattle.text_lowering.specs.Promised.Questions.{variable_kinds}
+use Rattle.text_lowering.specs.Ready.{AreSeen}
+use Rattle.text_lowering.proofs.WellSeen.{texts-seen-well}
 use Rattle.candidate_model.specs.DeclaredWell.{IsDeclaredWell, is_declared_well}
 use Rattle.candidate_model.proofs.DeclaredWell.{tests-tell}
 use Rattle.solver_completeness.specs.FormedFacts.{Sorts, FitsSorts, IsFormedView}

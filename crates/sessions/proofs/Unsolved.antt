@@ -25,11 +25,11 @@ use Rattle.candidate_assembly.specs.SolverMeaning.{solver_by_view}
 use Rattle.solver_graph.specs.Roots.{fact_under}
 use Rattle.overlap_check.proofs.Filling.{node}
 use Rattle.text_language.specs.Promised.Declarations.{Declarations, Question}
-use Rattle.view_lowering.specs.Promised.Questions.{variable_kinds, IsQuestion}
-use Rattle.view_lowering.specs.Promised.SeenWorlds.{plainly_seen_from, unbound_reference}
-use Rattle.view_lowering.specs.Plain.{unbound_references}
-use Rattle.view_lowering.specs.QuestionVariables.{number_of}
-use Rattle.view_lowering.specs.Seen.{rules_seen_from}
+use Rattle.text_lowering.specs.Promised.Questions.{variable_kinds, IsQuestion}
+use Rattle.text_lowering.specs.Promised.SeenWorlds.{plainly_seen_from, unbound_reference}
+use Rattle.text_lowering.specs.Plain.{unbound_references}
+use Rattle.text_lowering.specs.QuestionVariables.{number_of}
+use Rattle.text_lowering.specs.Seen.{rules_seen_from}
 use Rattle.sessions.specs.Asking.{goal_alone}
 use Rattle.sessions.specs.Goals.{goal_of}
 use Rattle.sessions.specs.Promised.OwnValues.{HasNoParameter}

@@ -5,10 +5,10 @@ use Rattle.declarations.specs.Applied.{AreApplied}
 use Rattle.declarations.specs.Items.{Items}
 use Rattle.text_language.specs.Promised.Declarations as text
 use Rattle.text_language.specs.Text.{TextGives}
-use Rattle.view_lowering.specs.Promised.Questions.{IsQuestion}
-use Rattle.view_lowering.specs.Questions.{IsLowered}
-use Rattle.view_lowering.specs.Ready.{AreSeen}
-use Rattle.view_lowering.specs.declared.question.LoweredQuestion.{LoweredQuestion}
+use Rattle.text_lowering.specs.Promised.Questions.{IsQuestion}
+use Rattle.text_lowering.specs.Questions.{IsLowered}
+use Rattle.text_lowering.specs.Ready.{AreSeen}
+use Rattle.text_lowering.specs.declared.question.LoweredQuestion.{LoweredQuestion}
 use Rattle.candidate_assembly.specs.Fitting.{solving_of}
 use Rattle.sessions.specs.Proving.{ClausesApply}
 use Rattle.sessions.specs.Sessions.{IsSolvingOf}

@@ -17,6 +17,8 @@ use Rattle.overlap_check.specs.Partners.{IsPairAt}
 use Rattle.overlap_check.specs.SessionLaws.{IsPassed}
 use Rattle.type_terms.specs.Promised.Verdicts.{IsOverlap}
 use Rattle.overlap_check.specs.declared.intersection.ImplIntersection.{ImplIntersection}
+use Rattle.pair_checks.specs.ByTrait.{ListsImpls, HavePartners}
+use Rattle.pair_checks.specs.declared.by_trait.ImplsByTrait.{ImplsByTrait}
 use Rattle.solver_graph.specs.declared.context.SolverCx.{SolverCx}
 use Rattle.solver_graph.specs.Contexts.{entries_of, IsReady as IsReadyContext, Advances}
 use Rattle.candidate_assembly.specs.declared.solver.Solver.{Solver}
@@ -93,6 +95,12 @@ IsFoundOverlap limit V c n None = (k j : ℕ) → k < n → j < n → ArePassedA
 IsFoundOverlap limit V c n (Some x) = IsOverlap limit V c x.0.index x.1.index
 
 -- ---- the same of what a session asks about
+abbrev pub ListsSeen : Subject → ImplsByTrait → Type 0
+ListsSeen s m = ListsImpls (view_in s.declarations s.of_crate) s.of_crate m
+
+abbrev pub HavePartnersSeen : Subject → ℕ → List ImplId → Type 0
+HavePartnersSeen s k ids = HavePartners (view_in s.declarations s.of_crate) s.of_crate k ids
+
 abbrev pub HasOrphan : Subject → List Entry → Option (ImplId × OrphanCheckErr Ty) → Type 0
 HasOrphan s es o = IsFirstError (view_in s.declarations s.of_crate) s.of_crate es o
 

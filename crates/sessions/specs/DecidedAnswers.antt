@@ -2,7 +2,7 @@
 use Rattle.std.specs.Prelude.{ℕ, List}
 use Rattle.type_terms.specs.Promised.Handles.{Entry}
 use Rattle.text_language.specs.Promised.Declarations.{Declarations, Question}
-use Rattle.view_lowering.specs.Promised.Questions.{IsQuestion}
+use Rattle.text_lowering.specs.Promised.Questions.{IsQuestion}
 use Rattle.candidate_assembly.specs.Solving.{Solving}
 use Rattle.type_terms.specs.Promised.Questions as answers
 use Rattle.sessions.specs.Promised.Promises.{IsProved}

@@ -4,7 +4,6 @@ pub mod Laws
 pub mod Proved
 pub mod Tables
 pub mod Values
-pub mod Impossible
 pub mod Fitting
 pub mod Views
 pub mod Goals
@@ -43,9 +42,8 @@ pub use Rattle.type_terms.specs.Promised.OrphanErrors
 pub use Rattle.overlap_check.specs.Promised.Errors as ErrorTerms
 pub use Rattle.type_terms.specs.Promised.Questions as QuestionAnswers
 pub use Rattle.type_terms.specs.Promised.Verdicts
-pub use Rattle.view_lowering.specs.Promised.Questions as TextQuestions
+pub use Rattle.text_lowering.specs.Promised.Questions as TextQuestions
 pub mod Shown
-pub mod ByTrait
 pub mod FixedGoals
 -- The crates below whose names the crates above need too: these list this crate alone.
 pub use Rattle.candidate_assembly.specs as CandidateAssembly
@@ -56,6 +54,7 @@ pub use Rattle.goal_frames.specs as GoalFrames
 pub use Rattle.infer_table.specs as InferTable
 pub use Rattle.orphan_check.specs as OrphanCheck
 pub use Rattle.overlap_check.specs as OverlapCheck
+pub use Rattle.pair_checks.specs as PairChecks
 pub use Rattle.proof_checker.specs as ProofChecker
 pub use Rattle.search_graph.specs as SearchGraph
 pub use Rattle.solver_graph.specs as SolverGraph
@@ -63,5 +62,5 @@ pub use Rattle.term_folds.specs as TermFolds
 pub use Rattle.text_language.specs as TextLanguage
 pub use Rattle.text_lines.specs as TextLines
 pub use Rattle.type_terms.specs as TypeTerms
-pub use Rattle.view_lowering.specs as ViewLowering
-pub use Rattle.workspace.specs as Workspace
+pub use Rattle.text_lowering.specs as TextLowering
+pub use Rattle.text_tables.specs as TextTables

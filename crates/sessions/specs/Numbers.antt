@@ -5,8 +5,8 @@ use Rattle.type_terms.specs.Promised.Worlds.{ImplDecl}
 use Rattle.type_terms.specs.Promised.Handles.{Entry}
 use Rattle.declarations.specs.Items.{Items, IsAbove, written, declared}
 use Rattle.text_language.specs.Promised.Declarations.{Declarations}
-use Rattle.workspace.specs.Numbered.{IsNumbered}
-use Rattle.view_lowering.specs.Promised.SeenWorlds.{plainly_seen_from}
+use Rattle.text_tables.specs.Numbered.{IsNumbered}
+use Rattle.text_lowering.specs.Promised.SeenWorlds.{plainly_seen_from}
 
 -- All are below n, and each number is that of one impl alone.
 pub record HaveNumbersBelow (n : ℕ) (es : List Entry) (decls : Items) : Type 0 where

@@ -15,7 +15,7 @@ use Rattle.overlap_check.specs.Partners.{IsPairAt}
 use Rattle.type_terms.specs.Promised.Questions.{IsRefuteAnswer, unrefuted}
 use Rattle.overlap_check.specs.declared.intersection.ImplIntersection.{ImplIntersection}
 use Rattle.text_language.specs.Promised.Declarations.{Declarations}
-use Rattle.view_lowering.specs.Promised.SeenWorlds.{plainly_seen_from}
+use Rattle.text_lowering.specs.Promised.SeenWorlds.{plainly_seen_from}
 use Rattle.candidate_assembly.specs.Fitting.{solving_of}
 use Rattle.candidate_assembly.specs.Ready.{AreReadyDeclarations}
 use Rattle.candidate_assembly.specs.SolverMeaning.{solver_by_view}

@@ -16,8 +16,8 @@ use Rattle.overlap_check.specs.Headers.{IsIntersection, IsSolved}
 use Rattle.overlap_check.specs.Written.{IsWrittenWell}
 use Rattle.overlap_check.specs.declared.intersection.ImplIntersection.{ImplIntersection}
 use Rattle.text_language.specs.Promised.Declarations.{Declarations}
-use Rattle.view_lowering.specs.Promised.SeenWorlds.{plainly_seen_from}
-use Rattle.view_lowering.specs.Ready.{AreSeen}
+use Rattle.text_lowering.specs.Promised.SeenWorlds.{plainly_seen_from}
+use Rattle.text_lowering.specs.Ready.{AreSeen}
 use Rattle.solver_completeness.specs.FormedFacts.{Sorts}
 use Rattle.sessions.specs.Fitting.{sorts_in}
 use Rattle.sessions.specs.Goals.{HasFormedTerms}

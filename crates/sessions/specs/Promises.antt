@@ -2,7 +2,7 @@
 use Rattle.type_terms.specs.Promised.Erased.{erased_reference}
 use Rattle.text_language.specs.Promised.Declarations.{Declarations, Question}
 use Rattle.type_terms.specs.Promised.Questions.{IsRefuted}
-use Rattle.view_lowering.specs.Promised.Questions.{variable_kinds}
+use Rattle.text_lowering.specs.Promised.Questions.{variable_kinds}
 use Rattle.sessions.specs.Promised.Promises.{view_in}
 
 -- The query's trait reference has no solution in a linked set with the query's crate, under any renumbering. Nor has it one by what the

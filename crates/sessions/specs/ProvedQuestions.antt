@@ -5,7 +5,7 @@ use Rattle.type_terms.specs.Promised.Handles.{Entry}
 use Rattle.type_terms.specs.declared.kinds.GenericArgKind.{GenericArgKind}
 use Rattle.text_language.specs.Promised.Declarations.{Declarations, Question}
 use Rattle.candidate_assembly.specs.Solving.{Solving}
-use Rattle.view_lowering.specs.Promised.Questions.{IsQuestion}
+use Rattle.text_lowering.specs.Promised.Questions.{IsQuestion}
 use Rattle.sessions.specs.Promised.Given.{answer_in}
 use Rattle.sessions.specs.Promised.Promises.{IsProved}
 use Rattle.sessions.specs.Proving.{IsAnsweredBySolver}

@@ -35,11 +35,11 @@ use Rattle.candidate_assembly.specs.Ready.{AreReadyDeclarations}
 use Rattle.candidate_assembly.specs.Solving.{Solving}
 use Rattle.text_language.specs.Promised.Declarations.{Question}
 use Rattle.text_language.specs.Names.{own_unknowns}
-use Rattle.view_lowering.specs.Promised.SeenWorlds.{unbound_reference}
-use Rattle.view_lowering.specs.Plain.{unbound_references}
-use Rattle.view_lowering.specs.Promised.Questions.{variable_kinds}
-use Rattle.view_lowering.specs.Questions.{IsLowered}
-use Rattle.view_lowering.specs.declared.question.LoweredQuestion.{LoweredQuestion}
+use Rattle.text_lowering.specs.Promised.SeenWorlds.{unbound_reference}
+use Rattle.text_lowering.specs.Plain.{unbound_references}
+use Rattle.text_lowering.specs.Promised.Questions.{variable_kinds}
+use Rattle.text_lowering.specs.Questions.{IsLowered}
+use Rattle.text_lowering.specs.declared.question.LoweredQuestion.{LoweredQuestion}
 use Rattle.goal_frames.specs.Meanings.{HandlerMeaning}
 use Rattle.candidate_assembly.specs.SolverMeaning.{solver_by_view}
 use Rattle.sessions.specs.Foreign.{is_unknown_term, are_own_terms}

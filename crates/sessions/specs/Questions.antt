@@ -15,10 +15,10 @@ use Rattle.declarations.specs.Promised.Elaboration.{elaborate}
 use Rattle.declarations.specs.Items.{Items, written, reference_in}
 use Rattle.text_language.specs.Promised.Declarations as text
 use Rattle.text_language.specs.Text.{TextGives}
-use Rattle.view_lowering.specs.Promised.Questions.{IsQuestion}
-use Rattle.view_lowering.specs.Questions.{IsLowered}
-use Rattle.view_lowering.specs.declared.question.LoweredQuestion.{LoweredQuestion}
-use Rattle.view_lowering.specs.Ready.{AreSeen}
+use Rattle.text_lowering.specs.Promised.Questions.{IsQuestion}
+use Rattle.text_lowering.specs.Questions.{IsLowered}
+use Rattle.text_lowering.specs.declared.question.LoweredQuestion.{LoweredQuestion}
+use Rattle.text_lowering.specs.Ready.{AreSeen}
 use Rattle.solver_completeness.specs.FormedFacts.{Sorts, FitsSorts}
 use Rattle.solver_completeness.specs.SolverChoices.{IsElaborated}
 use Rattle.sessions.specs.Clauses.{AddSupertraits}

@@ -2,8 +2,8 @@
 use Rattle.std.specs.Prelude.{◌≡◌, ◌<◌, ℕ, length}
 use Rattle.declarations.specs.Items.{declared}
 use Rattle.text_language.specs.Promised.Declarations.{Declarations}
-use Rattle.view_lowering.specs.Ready.{AreSeen}
-use Rattle.view_lowering.specs.Seen.{rules_seen_from}
+use Rattle.text_lowering.specs.Ready.{AreSeen}
+use Rattle.text_lowering.specs.Seen.{rules_seen_from}
 use Rattle.candidate_assembly.specs.Ready.{AreReadyDeclarations}
 use Rattle.sessions.specs.declared.seen_view.SeenView.{SeenView}
 

@@ -4,9 +4,9 @@ use Rattle.type_terms.specs.Promised.Handles.{Entry}
 use Rattle.search_graph.specs.SearchState.{SearchState}
 use Rattle.declarations.specs.Items.{Items, written, declared}
 use Rattle.text_language.specs.Promised.Declarations.{Declarations}
-use Rattle.view_lowering.specs.Promised.SeenWorlds.{plainly_seen_from}
-use Rattle.view_lowering.specs.Seen.{rules_seen_from}
-use Rattle.view_lowering.specs.Ready.{AreSeen}
+use Rattle.text_lowering.specs.Promised.SeenWorlds.{plainly_seen_from}
+use Rattle.text_lowering.specs.Seen.{rules_seen_from}
+use Rattle.text_lowering.specs.Ready.{AreSeen}
 use Rattle.goal_frames.specs.Stores.{limit_of}
 use Rattle.solver_graph.specs.declared.context.SolverCx.{SolverCx}
 use Rattle.solver_graph.specs.Contexts.{entries_of}

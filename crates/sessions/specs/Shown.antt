@@ -10,7 +10,7 @@ use Rattle.type_terms.specs.Promised.Questions.{FitKinds, filled_reference}
 use Rattle.proof_checker.specs.Steps.{AreProofOf}
 use Rattle.proof_checker.specs.declared.steps.Step.{Step}
 use Rattle.text_language.specs.Promised.Declarations.{Declarations, Question}
-use Rattle.view_lowering.specs.Promised.Questions.{variable_kinds}
+use Rattle.text_lowering.specs.Promised.Questions.{variable_kinds}
 use Rattle.sessions.specs.Promised.Promises.{view_in}
 
 -- With values of their kinds for the query's variables, the steps are a proof of its trait reference by the rules of V, the query's

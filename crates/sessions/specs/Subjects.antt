@@ -4,7 +4,7 @@ use Rattle.std.specs.Coded.{Coded, code_by, coded_ℕ, coded×, coded_list}
 use Rattle.type_terms.specs.Promised.Handles.{Entry}
 use Rattle.type_terms.specs.Terms.{entry_code}
 use Rattle.text_language.specs.Promised.Declarations.{Declarations}
-use Rattle.workspace.specs.Stored.{declarations_code}
+use Rattle.text_tables.specs.Stored.{declarations_code}
 use Rattle.sessions.specs.Promised.Subjects.{Subject}
 
 abbrev pub subject_code : Coded Subject

@@ -2,7 +2,7 @@
 use Rattle.std.specs.Prelude.{List}
 use Rattle.type_terms.specs.Promised.Handles.{Entry}
 use Rattle.declarations.specs.Items.{Items, written}
-use Rattle.view_lowering.specs.Ready.{OfTexts}
+use Rattle.text_lowering.specs.Ready.{OfTexts}
 use Rattle.solver_completeness.specs.FormedFacts.{IsFormedView}
 use Rattle.sessions.specs.Fitting.{sorts_in}
 

@@ -3,16 +3,16 @@
 ghost use Rattle.std.specs.Prelude.{◌≡◌, IfOk, IfErr};
 ghost use Rattle.type_terms.specs.Growth.{FullAtLimit};
 ghost use Rattle.text_language.specs.Promised.Declarations.{Question};
-ghost use Rattle.view_lowering.specs.Promised.Questions.{IsQuestion};
-ghost use Rattle.view_lowering.specs.Questions.{IsLowered};
+ghost use Rattle.text_lowering.specs.Promised.Questions.{IsQuestion};
+ghost use Rattle.text_lowering.specs.Questions.{IsLowered};
 ghost use Rattle.solver_graph.specs.Contexts.{IsReady, InternerGrows, Advances};
 ghost use Rattle.sessions.specs.Resting.{AreAtRest};
 
 use goal_frames::GoalHandler;
 use solver_graph::{SolverCx, context_laws};
+use text_lowering::{LoweredQuestion, lower_question};
+use text_tables::Workspace;
 use type_terms::Fault;
-use view_lowering::{LoweredQuestion, lower_question};
-use workspace::Workspace;
 
 /// A context that has grown means what it meant, and everything stays at rest in it. It grows where its interner does.
 pub(crate) fn rest_laws<H: GoalHandler>()

@@ -16,11 +16,11 @@ ghost use Rattle.sessions.specs.Sessions.{SolverRests, IsSession};
 ghost use Rattle.solver_graph.specs.Shortages.{ContextFullAtLimit};
 
 use crate::asked::rest_laws;
-use crate::impossible::is_impossible;
 use candidate_assembly::solver::Solver;
 use infer_table::infer_ctxt::InferCtxt;
 use overlap_check::fixed::{FixedGoal, fixed_goals, goal_reference};
 use overlap_check::partners::pair_at;
+use pair_checks::is_impossible;
 use solver_graph::{Search, SolverCx};
 use std::alloc::{AllocError, Global};
 use std::collections::HashMap;

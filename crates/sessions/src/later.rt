@@ -14,7 +14,7 @@ ghost use Rattle.type_terms.specs.Growth.{FullAtLimit};
 ghost use Rattle.declarations.specs.Held.{ImplHeld, ReferenceHeld};
 ghost use Rattle.declarations.specs.Items.{declared, reference_in};
 ghost use Rattle.declarations.specs.Promised.Elaboration.{Each};
-ghost use Rattle.workspace.specs.declared.tables.TheConstants.{ENTRY_LIMIT};
+ghost use Rattle.text_tables.specs.declared.tables.TheConstants.{ENTRY_LIMIT};
 ghost use Rattle.sessions.specs.Checking.{IsReadySolver, SolverStaysReady, rules_in};
 ghost use Rattle.sessions.specs.Promised.Given.{later_of};
 ghost use Rattle.sessions.specs.Later.{IsAnswerOn, OldRefutationsStay, header_in, section_headers};
@@ -31,14 +31,14 @@ use orphan_check::open_walk::open_walk_meets_param;
 use orphan_check::orphan::keeps_orphan_rule;
 use solver_graph::SolverCx;
 use term_folds::predicate::TraitRef;
+use text_lowering::laws::later_impls_begin_declared;
+use text_lowering::lower_later;
+use text_tables::Workspace;
 use type_terms::interner::Interner;
 use type_terms::laws::{
     added_by_the_view_is_added, later_impls_conclude_nothing_known, later_versions_break_no_user,
 };
 use type_terms::{Fault, TraitId};
-use view_lowering::laws::later_impls_begin_declared;
-use view_lowering::lower_later;
-use workspace::Workspace;
 
 /// An impl that a later version of a crate may add, by the crate's own view, overlaps no impl that a user of the crate may write. It
 /// concludes nothing that is knowable in a crate that the changed crate does not see.

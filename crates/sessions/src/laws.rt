@@ -6,7 +6,7 @@ ghost use Rattle.infer_table.specs.Responses.{AnswerTrees};
 ghost use Rattle.goal_evaluator.specs.Tables.{frame_tables};
 ghost use Rattle.goal_frames.specs.Searches.{Handles, GoalInMode};
 ghost use Rattle.candidate_assembly.specs.Solving.{Solving};
-ghost use Rattle.view_lowering.specs.Ready.{OfTexts};
+ghost use Rattle.text_lowering.specs.Ready.{OfTexts};
 ghost use Rattle.sessions.specs.Clauses.{SupertraitsAreErased, SupertraitsProveNoMore};
 ghost use Rattle.sessions.specs.Laws.{UnboundStandForThemselves, ValuesFill};
 ghost use Rattle.sessions.specs.Proved.{ValuesAreProved};

@@ -12,15 +12,12 @@
 
 mod answers;
 mod asked;
-mod by_trait;
 mod checked;
 mod fixed_goals;
-mod impossible;
 mod later;
 pub mod laws;
 mod left_session;
 mod limits;
-mod obligations;
 mod own_values;
 mod placeholders;
 mod proving;
@@ -36,7 +33,6 @@ mod view;
 pub use answers::{LaterAnswer, ProveAnswer, RefuteAnswer, SupersAnswer, Verdict};
 pub use asked::lower_in;
 pub use checked::{intersection_at, overlap_at};
-pub use impossible::is_impossible;
 pub use later::{added_impls, added_impls_break_no_user, old_answers_stay, trait_is_relied_on};
 pub use laws::{
     SolverSearch, accepted_texts_are_coherent, answered_sets_are_linked, clauses_apply,
@@ -49,7 +45,6 @@ pub use laws::{
 };
 pub use left_session::LeftSession;
 pub use limits::Limits;
-pub use obligations::has_impossible_obligation;
 pub use orphan_check::errors::{OrphanCheckErr, UncoveredTyParams};
 pub use proving::{elaborate_in, goal_under, question_table_in};
 pub use seen_view::SeenView;
@@ -64,11 +59,12 @@ pub use goal_evaluator;
 pub use infer_table;
 pub use orphan_check;
 pub use overlap_check;
+pub use pair_checks;
 pub use proof_checker;
 pub use search_graph;
 pub use solver_graph;
 pub use term_folds;
 pub use text_lines;
+pub use text_lowering;
+pub use text_tables;
 pub use type_terms;
-pub use view_lowering;
-pub use workspace;

@@ -20,6 +20,7 @@ use candidate_assembly::visitors::{bounds_are_declared, break_if, struct_is_decl
 use declarations::declarations::Declarations;
 use std::ops::ControlFlow;
 use term_folds::predicate::TraitRef;
+use text_lowering::LoweredQuestion;
 use type_terms::binders::Binders;
 use type_terms::flags::TypeFlags;
 use type_terms::interner::Interner;
@@ -28,7 +29,6 @@ use type_terms::once::Once;
 use type_terms::region::Region;
 use type_terms::visit::{Seen, TypeVisitor, visit_args, visit_ty};
 use type_terms::visitable_ext::TypeVisitableExt;
-use view_lowering::LoweredQuestion;
 
 /// The placeholder of a parameter of a question, by its number.
 #[derive(Clone, Copy)]

@@ -16,8 +16,8 @@ ghost use Rattle.infer_table.specs.Content.{Ready};
 ghost use Rattle.infer_table.specs.Goals.{GoalHeld, goal_trees};
 ghost use Rattle.sessions.specs.Goals.{goal_of};
 ghost use Rattle.text_language.specs.Promised.Declarations.{Question};
-ghost use Rattle.view_lowering.specs.Promised.Questions.{IsQuestion};
-ghost use Rattle.view_lowering.specs.Questions.{IsLowered};
+ghost use Rattle.text_lowering.specs.Promised.Questions.{IsQuestion};
+ghost use Rattle.text_lowering.specs.Questions.{IsLowered};
 ghost use Rattle.solver_graph.specs.Contexts.{Advances, IsReady, KeepsLimits};
 ghost use Rattle.solver_graph.specs.Shortages.{ContextFullAtLimit};
 ghost use Rattle.candidate_assembly.specs.Fitting.{solving_of};
@@ -44,13 +44,13 @@ use infer_table::infer_ctxt::InferCtxt;
 use solver_graph::{Outcome, Search, SolverCx, ask_until_settled};
 use std::alloc::{AllocError, Global};
 use term_folds::predicate::{Clause, TraitPredicate, TraitRef};
+use text_lowering::LoweredQuestion;
+use text_tables::Workspace;
 use type_terms::Fault;
 use type_terms::flags::TypeFlags;
 use type_terms::interner::Interner;
 use type_terms::kinds::{GenericArgKind, GenericArgs};
 use type_terms::visitable_ext::TypeVisitableExt;
-use view_lowering::LoweredQuestion;
-use workspace::Workspace;
 
 fn where_clauses(alloc: Global, references: &[TraitRef]) -> Result<Vec<Clause>, AllocError>
     ensures { IfOk result (λ v. v.items ≡ where_clauses references.now) }

@@ -10,13 +10,13 @@ ghost use Rattle.infer_table.specs.Content.{Ready, variables_of};
 ghost use Rattle.infer_table.specs.Covers.{AreKnown};
 ghost use Rattle.infer_table.specs.Canonical.{HasNoCanonical};
 ghost use Rattle.text_language.specs.Promised.Declarations.{Question};
-ghost use Rattle.view_lowering.specs.Promised.SeenWorlds.{unbound_reference};
-ghost use Rattle.view_lowering.specs.Promised.Questions.{IsQuestion};
-ghost use Rattle.view_lowering.specs.Questions.{IsLowered};
-ghost use Rattle.view_lowering.specs.QuestionVariables.{HasVariablesAlone};
+ghost use Rattle.text_lowering.specs.Promised.SeenWorlds.{unbound_reference};
+ghost use Rattle.text_lowering.specs.Promised.Questions.{IsQuestion};
+ghost use Rattle.text_lowering.specs.Questions.{IsLowered};
+ghost use Rattle.text_lowering.specs.QuestionVariables.{HasVariablesAlone};
 ghost use Rattle.sessions.specs.Asking.{HasNoProof, IsLeftOpen, IsRefusedAlone, goal_alone};
 ghost use Rattle.sessions.specs.Frames.{StartsFramesOfOne};
-ghost use Rattle.sessions.specs.Impossible.{IsNoRefusal};
+ghost use Rattle.pair_checks.specs.Impossible.{IsNoRefusal};
 ghost use Rattle.sessions.specs.Resting.{AreAtRest};
 ghost use Rattle.solver_graph.specs.Contexts.{KeepsLimits};
 ghost use Rattle.solver_graph.specs.Shortages.{ContextFullAtLimit};
@@ -30,9 +30,9 @@ use infer_table::goal::Goal;
 use infer_table::infer_ctxt::InferCtxt;
 use solver_graph::{GoalEvaluation, RootError, Search};
 use term_folds::predicate::{TraitPredicate, TraitRef};
+use text_lowering::LoweredQuestion;
+use text_tables::Workspace;
 use type_terms::Fault;
-use view_lowering::LoweredQuestion;
-use workspace::Workspace;
 
 /// Evaluates a trait reference in coherence, without where-clauses, over a table without values.
 ///

@@ -2,18 +2,18 @@
 
 ghost use Rattle.std.specs.Prelude.{◌≡◌, ◌<◌, ◌≤◌, ◌+◌, length, IfOk, Err};
 ghost use Rattle.type_terms.specs.declared.interner.TheConstants.{MAX_HANDLES};
-ghost use Rattle.view_lowering.specs.MostTerms.{most_terms};
+ghost use Rattle.text_lowering.specs.MostTerms.{most_terms};
 ghost use Rattle.sessions.specs.SeenViews.{IsViewOf};
 ghost use Rattle.sessions.specs.Promised.Subjects.{IsOfText};
 
 use crate::view::{declarations_are_ready, lower_view};
 use declarations::declarations::Declarations;
 use std::alloc::Global;
+use text_lowering::laws::impls_begin_declared;
+use text_lowering::lower_behind;
+use text_tables::Workspace;
 use type_terms::interner::Interner;
 use type_terms::{CrateId, Fault};
-use view_lowering::laws::impls_begin_declared;
-use view_lowering::lower_behind;
-use workspace::Workspace;
 
 /// A view is passed on only while searches over its interner have started at most one frame for each 64 terms of the handle limit. A frame
 /// makes some terms of its own, so what is passed on takes a small part of the next session's room.

@@ -9,14 +9,13 @@ ghost use Rattle.declarations.specs.Promised.Elaboration.{Each};
 ghost use Rattle.orphan_check.specs.Promised.Errors.{ErrorHeld};
 ghost use Rattle.type_terms.specs.Promised.SetLaws.{AnswersHoldEverywhere, HeadlineHolds};
 ghost use Rattle.proof_checker.specs.Steps.{StepHeld};
-ghost use Rattle.view_lowering.specs.MostTerms.{most_terms};
-ghost use Rattle.workspace.specs.Numbered.{IsNumbered};
+ghost use Rattle.text_lowering.specs.MostTerms.{most_terms};
+ghost use Rattle.text_tables.specs.Numbered.{IsNumbered};
 ghost use Rattle.text_language.specs.Promised.Declarations.{Question};
 ghost use Rattle.sessions.specs.Promised.AnsweredSets.{AnsweredSetsAreCoherent, AnsweredSetsAreLinked};
-ghost use Rattle.sessions.specs.ByTrait.{ListsSeen, HavePartnersSeen};
 ghost use Rattle.sessions.specs.Promised.CoherentTexts.{HeldTextsAreCoherent};
 ghost use Rattle.sessions.specs.Promised.Entailment.{YesHolds};
-ghost use Rattle.sessions.specs.Checking.{HasOrphan, HasJudged, HasPartner, HasOverlap};
+ghost use Rattle.sessions.specs.Checking.{HasOrphan, HasJudged, HasPartner, HasOverlap, ListsSeen, HavePartnersSeen};
 ghost use Rattle.sessions.specs.FixedGoals.{AreRefutedInSession};
 ghost use Rattle.sessions.specs.Promised.FrameBounds.{ProvesInFrames, RefutesInFrames};
 ghost use Rattle.sessions.specs.Promised.Given.{AnswerValuesHeld, VerdictHeld, answer_in, later_of, refutation_of, supers_answer_of, verdict_in};
@@ -31,7 +30,6 @@ ghost use Rattle.sessions.specs.Promised.Subjects.{IsOfText, AsksProof, AsksRefu
 
 use crate::answers::{LaterAnswer, ProveAnswer, RefuteAnswer, SupersAnswer, Verdict};
 use crate::asked::rest_laws;
-use crate::by_trait::ImplsByTrait;
 use crate::checked::{first_broken_header, overlaps_by_goals};
 use crate::fixed_goals::FixedAnswers;
 use crate::later::{added_impls_break_no_user, later_answer, old_answers_stay};
@@ -49,16 +47,17 @@ use crate::supertraits::{HeaderAnswer, header_answer_at};
 use candidate_assembly::solver::Solver;
 use orphan_check::errors::OrphanCheckErr;
 use overlap_check::{accepted_sets_have_one_impl, answers_hold_in_linked_sets};
+use pair_checks::by_trait::ImplsByTrait;
 use proof_checker::steps::Step;
 use search_graph::{GlobalCache, SearchGraph};
 use solver_graph::{Search, SolverCx};
 use std::alloc::{AllocError, Global};
 use std::marker::Model;
+use text_lowering::refutations_have_variables_alone;
+use text_tables::Workspace;
 use type_terms::interner::Interner;
 use type_terms::kinds::{GenericArgKind, Ty};
 use type_terms::{CrateId, Fault, ImplId};
-use view_lowering::refutations_have_variables_alone;
-use workspace::Workspace;
 
 /// A crate of a text, for checks and queries.
 ///

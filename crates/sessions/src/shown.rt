@@ -11,9 +11,9 @@ ghost use Rattle.declarations.specs.Promised.Elaboration.{Each};
 ghost use Rattle.infer_table.specs.Content.{Ready};
 ghost use Rattle.proof_checker.specs.Steps.{term_of, terms_of, AreProofOf, StepHeld};
 ghost use Rattle.text_language.specs.Promised.Declarations.{Question};
-ghost use Rattle.view_lowering.specs.Promised.SeenWorlds.{unbound_reference};
-ghost use Rattle.view_lowering.specs.Plain.{unbound_references};
-ghost use Rattle.view_lowering.specs.Promised.Questions.{IsQuestion};
+ghost use Rattle.text_lowering.specs.Promised.SeenWorlds.{unbound_reference};
+ghost use Rattle.text_lowering.specs.Plain.{unbound_references};
+ghost use Rattle.text_lowering.specs.Promised.Questions.{IsQuestion};
 ghost use Rattle.sessions.specs.Checking.{IsReadySolver, SolverStaysReady, rules_in};
 ghost use Rattle.sessions.specs.Shown.{IsResolved, IsShown};
 
@@ -27,10 +27,10 @@ use proof_checker::checker::is_proof_of;
 use proof_checker::steps::Step;
 use solver_graph::SolverCx;
 use term_folds::predicate::TraitRef;
+use text_tables::Workspace;
 use type_terms::Fault;
 use type_terms::interner::Interner;
 use type_terms::kinds::GenericArgKind;
-use workspace::Workspace;
 
 /// Equates a variable with a value. If the value does not fit, nothing changes.
 fn equate(

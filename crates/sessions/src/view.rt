@@ -3,10 +3,10 @@
 ghost use Rattle.std.specs.Prelude.{◌≡◌, ◌+◌, ◌<◌, ◌≤◌, length, map, IfOk, IfErr};
 ghost use Rattle.type_terms.specs.Growth.{FullAtLimit};
 ghost use Rattle.declarations.specs.Items.{written, declared};
-ghost use Rattle.view_lowering.specs.MostTerms.{most_terms};
-ghost use Rattle.view_lowering.specs.Promised.SeenWorlds.{plainly_seen_from};
-ghost use Rattle.view_lowering.specs.Seen.{rules_seen_from, struct_sorts, trait_sorts, impl_sorts, struct_sorts_seen, trait_sorts_seen, impl_sorts_seen};
-ghost use Rattle.view_lowering.specs.Ready.{OfTexts};
+ghost use Rattle.text_lowering.specs.MostTerms.{most_terms};
+ghost use Rattle.text_lowering.specs.Promised.SeenWorlds.{plainly_seen_from};
+ghost use Rattle.text_lowering.specs.Seen.{rules_seen_from, struct_sorts, trait_sorts, impl_sorts, struct_sorts_seen, trait_sorts_seen, impl_sorts_seen};
+ghost use Rattle.text_lowering.specs.Ready.{OfTexts};
 ghost use Rattle.candidate_assembly.specs.Ready.{AreReadyDeclarations};
 ghost use Rattle.sessions.specs.Numbers.{ImplsAreNumbered};
 ghost use Rattle.sessions.specs.Readying.{AreReady};
@@ -14,14 +14,14 @@ ghost use Rattle.sessions.specs.Promised.Subjects.{IsOfText};
 
 use declarations::declarations::Declarations;
 use std::alloc::Global;
-use type_terms::interner::Interner;
-use type_terms::{CrateId, Fault};
-use view_lowering::laws::impls_begin_declared;
-use view_lowering::{
+use text_lowering::laws::impls_begin_declared;
+use text_lowering::{
     bounds_are_applied, fields_speak_of_parameters, impls_speak_of_parameters, lower,
     texts_are_declared_well,
 };
-use workspace::Workspace;
+use text_tables::Workspace;
+use type_terms::interner::Interner;
+use type_terms::{CrateId, Fault};
 
 /// What a crate sees of a text without a fault is ready for the solver, if its terms are an interner's.
 pub fn declarations_are_ready()

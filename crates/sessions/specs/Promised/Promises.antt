@@ -10,7 +10,7 @@ use Rattle.type_terms.specs.Promised.Worlds.{World, Reference, view_of}
 use Rattle.text_language.specs.Promised.Declarations.{Declarations, Question, world_of}
 use Rattle.type_terms.specs.Promised.Questions.{FitKinds, filled, ProveAnswer, yes, unproved, maybe, HoldUnknownsAlone, SolutionBy, IsProveAnswer, RefuteAnswer, IsRefuteAnswer}
 use Rattle.type_terms.specs.Promised.Verdicts.{Verdict, IsVerdict}
-use Rattle.view_lowering.specs.Promised.Questions.{variable_kinds}
+use Rattle.text_lowering.specs.Promised.Questions.{variable_kinds}
 use Rattle.sessions.specs.Promised.OwnValues.{HasNoParameter, SpeaksOfOwn}
 
 -- The view that answers of crate c are about: all that it sees, up to lifetimes.

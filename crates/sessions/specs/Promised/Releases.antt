@@ -13,7 +13,7 @@ use Rattle.type_terms.specs.Promised.LinkedSet.{JoinedSet}
 use Rattle.type_terms.specs.Promised.Versions.{Added, is_addable, in_scope}
 use Rattle.text_language.specs.Promised.Declarations.{Declarations, NamedImpl, section_impls, world_of}
 use Rattle.declarations.specs.Promised.Elaboration.{supertraits}
-use Rattle.view_lowering.specs.Promised.SeenWorlds.{plainly_seen_from, unbound_reference}
+use Rattle.text_lowering.specs.Promised.SeenWorlds.{plainly_seen_from, unbound_reference}
 use Rattle.sessions.specs.Promised.Promises.{view_in}
 
 -- ---- later versions

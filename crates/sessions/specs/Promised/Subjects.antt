@@ -3,7 +3,7 @@ use Rattle.std.specs.Prelude.{◌≡◌, ℕ, true, false, List, Ok}
 use Rattle.type_terms.specs.Promised.Handles.{Entry, Keeps}
 use Rattle.text_language.specs.Promised.Declarations.{Declarations, Question}
 use Rattle.text_language.specs.Promised.TextSays.{TextSays}
-use Rattle.view_lowering.specs.Promised.Questions.{IsQuestion}
+use Rattle.text_lowering.specs.Promised.Questions.{IsQuestion}
 
 -- The declarations, one of their crates by its number, and the limits: the depth, and how many terms of a kind, goals and answers there are
 -- at most. Then the terms of the session's interner, how many goals and answers the session stores, and how many frames its graph has

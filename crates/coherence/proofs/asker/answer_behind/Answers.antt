@@ -1,9 +1,9 @@
 use Rattle.std.proofs.Common.{◌∙◌, ◌<◌, ap, arith, length, subst, sym}
 use Rattle.sessions.specs.TextLanguage.Promised.Declarations.{Declarations}
-use Rattle.sessions.specs.Workspace.Numbered.{IsFew}
-use Rattle.sessions.specs.Workspace.Tables.{with_question}
-use Rattle.sessions.specs.Workspace.Unasked.{without_last_question}
-use Rattle.sessions.specs.Workspace.Views.{question_of}
+use Rattle.sessions.specs.TextTables.Numbered.{IsFew}
+use Rattle.sessions.specs.TextTables.Tables.{with_question}
+use Rattle.sessions.specs.TextTables.Unasked.{without_last_question}
+use Rattle.sessions.specs.TextTables.Views.{question_of}
 use Rattle.sessions.specs.Promised.Subjects.{IsOfText}
 use Rattle.coherence.specs.Groups.{IsAskedIn}
 use Rattle.coherence.specs.KeptLines.{IsLineOf}

@@ -1,6 +1,6 @@
 use Rattle.std.proofs.Common.{◌≡◌, true, arith, rules, subst, sym}
 use Rattle.sessions.specs.TextLanguage.Promised.Declarations.{Declarations}
-use Rattle.sessions.specs.Workspace.Numbered.{IsFew}
+use Rattle.sessions.specs.TextTables.Numbered.{IsFew}
 use Rattle.coherence.specs.declared.ask_fault.AskFault.TheVariants.{Memory}
 use Rattle.coherence.proofs.Asking.{handed-shortage, query-at, shortages-are}
 use Rattle.coherence.proofs.asker.query_behind.Goals as goal

@@ -1,4 +1,4 @@
-use Rattle.sessions.specs.Workspace.declared.declared.Asked.TheVariants.{Prove, Refute}
+use Rattle.sessions.specs.TextTables.declared.declared.Asked.TheVariants.{Prove, Refute}
 use Rattle.coherence.proofs.Places.{asked-at}
 use Rattle.coherence.proofs.groups.asker_at.Goals as goal
 

@@ -1,5 +1,5 @@
 use Rattle.std.proofs.Common.{refl}
-use Rattle.sessions.specs.Workspace.declared.declared.Check.TheVariants.{Later, Supers}
+use Rattle.sessions.specs.TextTables.declared.declared.Check.TheVariants.{Later, Supers}
 use Rattle.coherence.proofs.Places.{check-at}
 use Rattle.coherence.proofs.groups.checked_at.Goals as goal
 

@@ -1,6 +1,6 @@
 use Rattle.std.proofs.Common.{arith, ap, length, subst, ◌≡◌}
 use Rattle.std.proofs.lemmas.List.{length-map}
-use Rattle.sessions.specs.Workspace.Views.{check_of}
+use Rattle.sessions.specs.TextTables.Views.{check_of}
 use Rattle.coherence.specs.Groups.{AreGroups}
 use Rattle.coherence.proofs.groups.checks_by_crate.Goals as goal
 

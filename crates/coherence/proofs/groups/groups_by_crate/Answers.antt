@@ -1,6 +1,6 @@
 use Rattle.std.proofs.Common.{arith, ap, length, subst, ◌≡◌, ℕ, Bool}
 use Rattle.std.proofs.lemmas.List.{length-map}
-use Rattle.sessions.specs.Workspace.Views.{asked_of}
+use Rattle.sessions.specs.TextTables.Views.{asked_of}
 use Rattle.sessions.specs.TextLanguage.Promised.Declarations.{Question}
 use Rattle.coherence.specs.Groups.{AreGroups}
 use Rattle.coherence.proofs.groups.groups_by_crate.Goals as goal

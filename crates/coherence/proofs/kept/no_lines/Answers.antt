@@ -1,7 +1,7 @@
 use Rattle.std.proofs.Common.{ap, length, sym, ◌∙◌, ℕ, Bool, arith}
 use Rattle.std.proofs.lemmas.List.{length-map}
 use Rattle.sessions.specs.TextLanguage.Promised.Declarations.{Question}
-use Rattle.sessions.specs.Workspace.Views.{asked_of, check_of}
+use Rattle.sessions.specs.TextTables.Views.{asked_of, check_of}
 use Rattle.coherence.proofs.kept.no_lines.Goals as goal
 
 pub returns : goal.returns

@@ -1,7 +1,7 @@
 use Rattle.std.proofs.Common.{refl}
 use Rattle.std.proofs.lemmas.Option.{slice_get_within}
 use Rattle.sessions.specs.TextLanguage.Promised.Declarations.{of_later, of_supers}
-use Rattle.sessions.specs.Workspace.declared.declared.Check.TheVariants.{Later, Supers}
+use Rattle.sessions.specs.TextTables.declared.declared.Check.TheVariants.{Later, Supers}
 use Rattle.coherence.proofs.Grouping.{one-checked}
 use Rattle.coherence.proofs.KeptLines.{checked-there}
 use Rattle.coherence.proofs.Places.{check-at}

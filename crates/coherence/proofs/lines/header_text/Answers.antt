@@ -8,8 +8,8 @@ use Rattle.sessions.specs.TextLanguage.Promised.Declarations.{NamedImpl}
 use Rattle.sessions.specs.TextLanguage.Names.{header_names}
 use Rattle.sessions.specs.TextLanguage.Output.{type_text}
 use Rattle.sessions.specs.TypeTerms.Promised.Handles.{trees_at}
-use Rattle.sessions.specs.Workspace.declared.declared.ImplEntry.{ImplEntry}
-use Rattle.sessions.specs.Workspace.Views.{impl_of, sorted_params}
+use Rattle.sessions.specs.TextTables.declared.declared.ImplEntry.{ImplEntry}
+use Rattle.sessions.specs.TextTables.Views.{impl_of, sorted_params}
 use Rattle.coherence.proofs.ErasedTexts.{text-same}
 use Rattle.coherence.proofs.Places.{entry-of}
 use Rattle.coherence.proofs.lines.header_text.Goals as goal

@@ -1,4 +1,4 @@
-use Rattle.sessions.specs.Workspace.declared.declared.Asked.TheVariants.{Prove, Refute}
+use Rattle.sessions.specs.TextTables.declared.declared.Asked.TheVariants.{Prove, Refute}
 use Rattle.coherence.proofs.Places.{asking, proof-asked, refutation-asked}
 use Rattle.coherence.proofs.lines.question_line.Goals as goal
 use Rattle.coherence.proofs.lines.question_line.Goals.{in-Prove+in_ok-line-in-Prove, in-Refute+in_ok-line-in-Refute}

@@ -5,7 +5,7 @@ use Rattle.text_printer.specs.Answers.{value_of}
 use Rattle.sessions.specs.TextLanguage.Promised.Declarations.{Question}
 use Rattle.sessions.specs.TextLanguage.Names.{answer_values}
 use Rattle.sessions.specs.TypeTerms.Promised.Handles.{arg_trees}
-use Rattle.sessions.specs.Workspace.Views.{question_of}
+use Rattle.sessions.specs.TextTables.Views.{question_of}
 use Rattle.coherence.proofs.ErasedValues.{values-same}
 use Rattle.coherence.proofs.Places.{entry-of}
 use Rattle.coherence.proofs.TermVariables.{term-variables}

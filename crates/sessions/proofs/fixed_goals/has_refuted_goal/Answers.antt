@@ -2,7 +2,7 @@ use Rattle.std.proofs.Common.{rules, ◌≡◌, true, sym, subst}
 use Rattle.sessions.specs.FixedGoals.{AreGoalsAt, IsGoalAt}
 use Rattle.sessions.proofs.FixedGoals.{rests-here, rests-further, rests-now, held-later, fixed-later, refuted-before, refuted-passes}
 use Rattle.sessions.proofs.Keeping.{session-kept}
-use Rattle.sessions.proofs.Lists.{each-here}
+use Rattle.pair_checks.proofs.Lists.{each-here}
 use Rattle.sessions.proofs.fixed_goals.has_refuted_goal.Goals as goal
 
 pub returns-in_err-goals-clause-rests : goal.returns-in_err-goals-clause-rests

@@ -6,8 +6,8 @@ use Rattle.declarations.specs.Applied.{TraitRefsHeld, AreApplied, references_in}
 use Rattle.declarations.specs.Promised.Elaboration.{elaborate}
 use Rattle.declarations.specs.Items.{reference_in, written}
 use Rattle.candidate_assembly.specs.Fitting.{solving_of}
-use Rattle.view_lowering.specs.Promised.SeenWorlds.{unbound_reference}
-use Rattle.view_lowering.specs.Plain.{unbound_references}
+use Rattle.text_lowering.specs.Promised.SeenWorlds.{unbound_reference}
+use Rattle.text_lowering.specs.Plain.{unbound_references}
 use Rattle.sessions.specs.Goals.{goal_of}
 use Rattle.sessions.proofs.Alone.{held-there, reference-is}
 use Rattle.sessions.proofs.Posing.{over-ok, args-later, answer-is, same-asked}

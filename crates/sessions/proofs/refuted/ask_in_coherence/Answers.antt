@@ -9,9 +9,8 @@ use Rattle.solver_graph.specs.Searching.{solver_meaning}
 use Rattle.sessions.specs.Asking.{goal_alone}
 use Rattle.solver_graph.specs.Askings.{frames_for}
 use Rattle.sessions.proofs.Alone.{alone-is, asked-is, no-proof}
-use Rattle.sessions.proofs.ImpossibleAlone.{left-open}
+use Rattle.pair_checks.proofs.ImpossibleAlone.{left-open, full-inside}
 use Rattle.std.proofs.Math.Nat.{le_refl}
-use Rattle.sessions.proofs.ShortCalls.{full-inside}
 use Rattle.sessions.proofs.refuted.ask_in_coherence.Goals as goal
 
 pub returns-clause-no : goal.returns-clause-no

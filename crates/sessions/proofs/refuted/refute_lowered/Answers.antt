@@ -3,7 +3,7 @@ use Rattle.std.proofs.Math.Nat.{le-add_right}
 use Rattle.term_folds.specs.Arguments.{arg_sort}
 use Rattle.declarations.specs.Items.{reference_in}
 use Rattle.infer_table.specs.Content.{Table}
-use Rattle.view_lowering.specs.Promised.SeenWorlds.{unbound_reference}
+use Rattle.text_lowering.specs.Promised.SeenWorlds.{unbound_reference}
 use Rattle.sessions.specs.Asking.{IsLeftOpen, IsRefusedAlone}
 use Rattle.sessions.specs.Frames.{StartsFramesOfOne}
 use Rattle.sessions.specs.Tables.{table_of}

@@ -3,7 +3,7 @@ use Rattle.std.proofs.Math.Nat.{le-add_right}
 use Rattle.type_terms.specs.Made.{terms, is_made, is_in_range}
 use Rattle.type_terms.specs.Promised.Worlds.{Reference}
 use Rattle.candidate_assembly.proofs.Finding.{args-made}
-use Rattle.view_lowering.specs.Promised.SeenWorlds.{unbound_reference}
+use Rattle.text_lowering.specs.Promised.SeenWorlds.{unbound_reference}
 use Rattle.sessions.specs.Asking.{HasNoProof, IsLeftOpen, IsRefusedAlone, goal_alone}
 use Rattle.sessions.specs.Frames.{StartsFramesOfOne}
 use Rattle.sessions.proofs.Alone.{on-ok}

@@ -12,8 +12,8 @@ use Rattle.proof_checker.proofs.Results.{mapped}
 use Rattle.solver_graph.proofs.Growing.{further}
 use Rattle.candidate_assembly.specs.Ready.{AreReadyDeclarations}
 use Rattle.candidate_assembly.specs.declared.solver.Solver.{Solver}
-use Rattle.view_lowering.specs.Promised.SeenWorlds.{unbound_reference}
-use Rattle.view_lowering.specs.Plain.{unbound_references}
+use Rattle.text_lowering.specs.Promised.SeenWorlds.{unbound_reference}
+use Rattle.text_lowering.specs.Plain.{unbound_references}
 use Rattle.sessions.specs.Checking.{rules_in}
 use Rattle.sessions.proofs.ShownProofs.{rules-later, shown-before}
 use Rattle.sessions.proofs.shown.is_proof_of_question.Goals as goal

@@ -9,7 +9,7 @@ use Rattle.sessions.specs.Sessions.{SolverRests}
 use Rattle.sessions.specs.Supertraits.{IsFirstTold, SolverTells}
 use Rattle.solver_graph.specs.declared.settling.Outcome.TheVariants.{Proved, Unproved, Maybe}
 use Rattle.sessions.proofs.HeaderChecks.{first-told, more-told, told-of}
-use Rattle.sessions.proofs.Lists.{each-here}
+use Rattle.pair_checks.proofs.Lists.{each-here}
 use Rattle.solver_graph.proofs.Growing.{limits-further}
 use Rattle.sessions.proofs.supertraits.first_unproved.Goals as goal
 

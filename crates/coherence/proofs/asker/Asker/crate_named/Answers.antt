@@ -2,7 +2,7 @@ use Rattle.std.proofs.Common.{◌≡◌, ◌∙◌, ap, subst}
 use Rattle.std.specs.Option.{option_map, option_and_then}
 use Rattle.sessions.specs.TypeTerms.declared.CrateId.{CrateId}
 use Rattle.sessions.specs.TextLanguage.Promised.Declarations.{Declarations, known}
-use Rattle.sessions.specs.Workspace.Tables.{declared, number_of_crate}
+use Rattle.sessions.specs.TextTables.Tables.{declared, number_of_crate}
 use Rattle.coherence.specs.Asking.{AskedText}
 use Rattle.coherence.proofs.Asking.{named-there}
 use Rattle.coherence.proofs.asker.Asker.crate_named.Goals as goal

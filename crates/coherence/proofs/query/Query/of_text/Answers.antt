@@ -1,7 +1,7 @@
 use Rattle.std.proofs.Common.{◌≡◌, ◌∙◌, length, ap, sym, arith, refl}
 use Rattle.std.proofs.lemmas.List.{length-map}
 use Rattle.sessions.specs.TextLanguage.Promised.Declarations.{Question}
-use Rattle.sessions.specs.Workspace.Views.{asked_of}
+use Rattle.sessions.specs.TextTables.Views.{asked_of}
 use Rattle.coherence.proofs.QueryValues.{prove-query, refute-query}
 use Rattle.coherence.proofs.query.Query.of_text.Goals as goal
 

@@ -1,8 +1,8 @@
 use Rattle.std.proofs.Common.{◌∙◌, ◌+◌, refl, subst, length, arith}
 use Rattle.type_terms.specs.Promised.Handles.{SomeKindIsFull}
 use Rattle.type_terms.specs.Growth.{FullAtLimit}
-use Rattle.view_lowering.specs.MostTerms.{most_terms}
-use Rattle.view_lowering.specs.Ready.{AreSeen}
+use Rattle.text_lowering.specs.MostTerms.{most_terms}
+use Rattle.text_lowering.specs.Ready.{AreSeen}
 use Rattle.solver_graph.proofs.Shortages.{handed}
 use Rattle.sessions.proofs.SeenViews.{new-are-fewer}
 use Rattle.sessions.proofs.ShortCalls.{at-err, many-terms}

@@ -1,7 +1,7 @@
 use Rattle.std.proofs.Common.{◌∙◌, refl, ap, subst, length, arith}
 use Rattle.type_terms.specs.Promised.Handles.{SomeKindIsFull}
 use Rattle.type_terms.specs.Growth.{FullAtLimit}
-use Rattle.view_lowering.specs.MostTerms.{most_terms}
+use Rattle.text_lowering.specs.MostTerms.{most_terms}
 use Rattle.solver_graph.proofs.Shortages.{handed}
 use Rattle.sessions.proofs.ShortCalls.{at-err, many-terms}
 use Rattle.sessions.proofs.seen_view.SeenView.new.Goals as goal

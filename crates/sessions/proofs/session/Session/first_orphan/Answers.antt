@@ -4,7 +4,7 @@ use Rattle.std.specs.Prelude.{IfOk}
 use Rattle.declarations.specs.Items.{IsAbove}
 use Rattle.sessions.specs.Checking.{HasOrphan}
 use Rattle.sessions.specs.Promised.Subjects.{Subject, StaysOn}
-use Rattle.workspace.specs.Numbered.{IsNumbered}
+use Rattle.text_tables.specs.Numbered.{IsNumbered}
 use Rattle.sessions.proofs.CratesAside.{orphan-ok}
 use Rattle.sessions.proofs.ImplNumbers.{numbers-below}
 use Rattle.sessions.proofs.Keeping.{session-kept, session-rests, limits-stay}

@@ -3,7 +3,7 @@ use Rattle.std.proofs.lemmas.List.{take_all}
 use Rattle.type_terms.specs.declared.ImplId.{ImplId}
 use Rattle.declarations.specs.Promised.Elaboration.{Each}
 use Rattle.sessions.proofs.CheckedSubjects.{Passed, stays-on, overlap-found, pair-passed, numbered-still}
-use Rattle.sessions.proofs.Lists.{each-more}
+use Rattle.pair_checks.proofs.Lists.{each-more}
 use Rattle.sessions.proofs.Partners.{all-partners-passed}
 use Rattle.sessions.proofs.session.Session.first_partner.Goals as goal
 

@@ -2,8 +2,9 @@ use Rattle.std.proofs.Common.{◌≡◌, sym, subst, length}
 use Rattle.std.specs.Prelude.{IfOk}
 use Rattle.type_terms.specs.Promised.Worlds.{World}
 use Rattle.declarations.specs.Items.{IsAbove}
-use Rattle.workspace.specs.Numbered.{IsNumbered}
-use Rattle.sessions.specs.ByTrait.{ListsImpls, ListsSeen}
+use Rattle.text_tables.specs.Numbered.{IsNumbered}
+use Rattle.pair_checks.specs.ByTrait.{ListsImpls}
+use Rattle.sessions.specs.Checking.{ListsSeen}
 use Rattle.sessions.specs.Promised.Promises.{view_in}
 use Rattle.sessions.specs.Promised.Subjects.{Subject}
 use Rattle.sessions.proofs.ImplNumbers.{numbers-below}

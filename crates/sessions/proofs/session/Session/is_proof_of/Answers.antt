@@ -6,7 +6,7 @@ use Rattle.declarations.specs.Promised.Elaboration.{Each}
 use Rattle.proof_checker.specs.Steps.{StepHeld}
 use Rattle.proof_checker.proofs.Results.{mapped}
 use Rattle.text_language.specs.Promised.Declarations.{Question}
-use Rattle.view_lowering.specs.Seen.{rules_seen_from}
+use Rattle.text_lowering.specs.Seen.{rules_seen_from}
 use Rattle.candidate_assembly.specs.Fitting.{solving_of}
 use Rattle.sessions.specs.Checking.{rules_in}
 use Rattle.sessions.specs.Sessions.{IsSolvingOf}

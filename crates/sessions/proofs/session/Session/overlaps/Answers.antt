@@ -4,7 +4,7 @@ use Rattle.std.specs.Prelude.{IfOk}
 use Rattle.sessions.specs.Checking.{HasJudged, HaveOwnNumbers}
 use Rattle.sessions.specs.FixedGoals.{AreRefutedInSession}
 use Rattle.sessions.specs.Promised.Subjects.{Subject, StaysOn}
-use Rattle.workspace.specs.Numbered.{IsNumbered}
+use Rattle.text_tables.specs.Numbered.{IsNumbered}
 use Rattle.sessions.proofs.ImplNumbers.{own-numbers}
 use Rattle.sessions.proofs.Keeping.{session-kept, session-rests, limits-stay}
 use Rattle.sessions.proofs.ShortCalls.{at-limit}

@@ -1,7 +1,8 @@
 use Rattle.std.proofs.Common.{refl, sym, subst}
 use Rattle.std.specs.Prelude.{IfOk}
 use Rattle.type_terms.specs.Promised.Worlds.{World}
-use Rattle.sessions.specs.ByTrait.{ListsImpls, ListsSeen, HavePartnersSeen}
+use Rattle.pair_checks.specs.ByTrait.{ListsImpls}
+use Rattle.sessions.specs.Checking.{ListsSeen, HavePartnersSeen}
 use Rattle.sessions.specs.Promised.Promises.{view_in}
 use Rattle.sessions.specs.Promised.Subjects.{Subject}
 use Rattle.sessions.proofs.PairChecks.{pair-here}

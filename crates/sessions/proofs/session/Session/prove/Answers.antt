@@ -10,7 +10,7 @@ use Rattle.sessions.proofs.RightAnswers.{is-asked, clauses-apply, answered-right
 use Rattle.candidate_assembly.specs.Fitting.{solving_of}
 use Rattle.candidate_assembly.specs.SolverMeaning.{solver_by_view}
 use Rattle.infer_table.specs.Unification.{table_trees}
-use Rattle.view_lowering.specs.Promised.Questions.{variable_kinds}
+use Rattle.text_lowering.specs.Promised.Questions.{variable_kinds}
 use Rattle.infer_table.specs.declared.certainty.TypingMode.TheVariants.{PostAnalysis}
 use Rattle.solver_graph.specs.Askings.{AskingsStartFrames}
 use Rattle.sessions.specs.Promised.FrameBounds.{ProvesInFrames}

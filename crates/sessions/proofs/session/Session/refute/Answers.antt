@@ -3,7 +3,7 @@ use Rattle.goal_frames.specs.Stores.{kept_inputs, kept_responses}
 use Rattle.std.specs.Prelude.{IfOk}
 use Rattle.candidate_assembly.specs.SolverMeaning.{solver_by_view}
 use Rattle.candidate_assembly.specs.Fitting.{solving_of}
-use Rattle.view_lowering.specs.Promised.SeenWorlds.{unbound_reference}
+use Rattle.text_lowering.specs.Promised.SeenWorlds.{unbound_reference}
 use Rattle.sessions.specs.Asking.{asked_alone}
 use Rattle.solver_graph.specs.Askings.{frames_for}
 use Rattle.sessions.specs.Promised.FrameBounds.{RefutesInFrames}

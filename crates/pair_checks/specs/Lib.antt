@@ -1,0 +1,2 @@
+pub mod ByTrait
+pub mod Impossible
