@@ -6,7 +6,7 @@ use messages::{Piece, Telling, plain, with_one};
 use std::alloc::{AllocError, Global};
 use text_names::FaultKind;
 use text_parser::{TEXT_LIMIT, TextError, TextFault, parse};
-use workspace::Workspace;
+use text_tables::Workspace;
 
 /// The message for a fault.
 fn message(kind: FaultKind) -> &'static str {

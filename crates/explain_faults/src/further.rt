@@ -17,7 +17,7 @@ use std::alloc::{AllocError, Global};
 use text_lines::Statement;
 use text_names::FaultKind;
 use text_parser::{TEXT_LIMIT, TextError, TextFault, parse};
-use workspace::Workspace;
+use text_tables::Workspace;
 
 /// How many faulty lines after the first one are read at most.
 const FAULTS: usize = 100;

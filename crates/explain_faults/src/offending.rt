@@ -13,8 +13,8 @@ use std::alloc::{AllocError, Global};
 use text_lines::{LineRead, Statement};
 use text_names::FaultKind;
 use text_parser::{LineForm, TEXT_LIMIT, TextFault, line_form};
+use text_tables::{Known, Workspace};
 use type_terms::CrateId;
-use workspace::{Known, Workspace};
 
 /// What a line says, if the grammar has it.
 pub(crate) fn reading(alloc: Global, line: &[u8]) -> Result<Option<LineRead<'_>>, AllocError> {

@@ -4,7 +4,7 @@ use explain_diagnostics::{TYPE_LIMIT, cut_text};
 use messages::{Name, name_of};
 use std::alloc::{AllocError, Global};
 use strsim::osa_distance;
-use workspace::Workspace;
+use text_tables::Workspace;
 
 /// How many edits a name that is alike may be away: one for each three bytes, and at least one, as in the original. One letter is like nothing.
 fn near(name: &str) -> usize {

@@ -5,7 +5,7 @@ use crate::offending::{Faulty, kind_of, line_declaring};
 use explain_diagnostics::on_line;
 use messages::{Piece, Telling, name_of, plain, whole_line, with_four, with_two};
 use std::alloc::{AllocError, Global};
-use workspace::{Known, ParamKind};
+use text_tables::{Known, ParamKind};
 
 /// What a place needs, by what is used there.
 fn needed(used_as: &str) -> &'static str {

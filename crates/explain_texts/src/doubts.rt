@@ -1,6 +1,8 @@
 //! The text for a goal that is ambiguous: several candidates, a variable, the depth limit, or a cycle.
 
-ghost use Rattle.std.specs.Prelude.{◌≡◌, ◌<◌, ◌≤◌, ◌⊎◌, IfSome};
+ghost use Rattle.std.specs.Prelude.{◌≡◌, ◌<◌, ◌≤◌, ◌⊎◌, if◌then◌else◌, IfOk, IfSome};
+ghost use Rattle.messages.specs.Told.{IsAbout, KeepsMessage};
+ghost use Rattle.explain_texts.specs.Doubts.{is_overflow};
 
 use crate::failures::{Asking, tell_implemented};
 use crate::items::{Texts, impl_line, mark_parts};
@@ -141,7 +143,9 @@ fn doubt_of(story: &Story<'_>, leaf: usize, may_run_out: bool) -> Doubt {
 }
 
 /// The code.
-fn code_of(doubt: Doubt) -> ErrCode {
+fn code_of(doubt: Doubt) -> ErrCode
+    ensures { result ≡ if is_overflow doubt then ErrCode.E0275 else ErrCode.E0283 }
+{
     match doubt {
         Doubt::Depth | Doubt::Limits | Doubt::Either | Doubt::Cycle => ErrCode::E0275,
         Doubt::Ways | Doubt::Open | Doubt::Other => ErrCode::E0283,
@@ -191,7 +195,9 @@ fn said_at<'s>(story: &'s Story<'_>, doubt: Doubt, leaf: usize, depth: u32) -> S
 }
 
 /// Adds the note for a candidate that is left, and says so if it was not checked that it may apply.
-fn tell_way(texts: Texts<'_>, source: CandidateSource, may_apply: bool, telling: &mut Telling) {
+fn tell_way(texts: Texts<'_>, source: CandidateSource, may_apply: bool, telling: &mut Telling)
+    ensures { KeepsMessage telling.old telling.new }
+{
     telling.note(with_one(chance(may_apply), source_piece(texts, source)));
     if let CandidateSource::Impl(id) = source {
         if let Some(found) = impl_line(texts, id) {
@@ -201,7 +207,9 @@ fn tell_way(texts: Texts<'_>, source: CandidateSource, may_apply: bool, telling:
 }
 
 /// Adds the notes for the candidates that are left of the goal at this index.
-fn tell_ways(story: &Story<'_>, place: usize, telling: &mut Telling) {
+fn tell_ways(story: &Story<'_>, place: usize, telling: &mut Telling)
+    ensures { KeepsMessage telling.old telling.new }
+{
     for (index, candidate) in story.candidates(place).iter().enumerate() {
         if index == LIST_LIMIT {
             telling.note(plain("others may apply too"));
@@ -226,7 +234,9 @@ fn deeper(depth: u32) -> Option<u32>
 }
 
 /// Adds the advice to try a greater depth limit, if there is one.
-pub(crate) fn tell_deeper(depth: u32, telling: &mut Telling) {
+pub(crate) fn tell_deeper(depth: u32, telling: &mut Telling)
+    ensures { KeepsMessage telling.old telling.new }
+{
     if let Some(other) = deeper(depth) {
         telling.help(with_two(
             "ask with a greater depth limit: `{}` in place of `{}`",
@@ -241,7 +251,9 @@ const GIVEN_UP: &str =
     "a search is given up after 65,536 nested goals: a smaller depth limit may settle it";
 
 /// Tells what may help where the search may have been given up.
-pub(crate) fn tell_given_up(telling: &mut Telling) {
+pub(crate) fn tell_given_up(telling: &mut Telling)
+    ensures { KeepsMessage telling.old telling.new }
+{
     telling.help(plain(GIVEN_UP));
 }
 
@@ -252,7 +264,9 @@ fn tell_doubt(
     leaf: usize,
     asking: Asking<'_>,
     telling: &mut Telling,
-) {
+)
+    ensures { KeepsMessage telling.old telling.new }
+{
     match doubt {
         Doubt::Ways => tell_ways(story, leaf, telling),
         Doubt::Depth => tell_deeper(asking.depth, telling),
@@ -267,7 +281,9 @@ pub fn unsettled(
     alloc: Global,
     story: &Story<'_>,
     asking: Asking<'_>,
-) -> Result<Diagnostic, AllocError> {
+) -> Result<Diagnostic, AllocError>
+    ensures { IfOk result (λ d. IsAbout Level.Error d.code asking.entry.span d) }
+{
     let path = doubtful_path(alloc, story)?;
     let leaf = last_of(&path);
     let doubt = doubt_of(story, leaf, asking.may_run_out);

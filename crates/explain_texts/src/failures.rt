@@ -1,5 +1,8 @@
 //! The text for a goal without a proof that was found: the deepest goal that failed, and what requires it.
 
+ghost use Rattle.std.specs.Prelude.{IfOk};
+ghost use Rattle.messages.specs.Told.{IsAbout, KeepsMessage};
+
 use crate::items::{Texts, has_rules, impl_line, impl_piece, is_auto, trait_name, written};
 use crate::lines::ImplLine;
 use crate::links::{impl_above, last_of, tell_links, tell_supertrait};
@@ -107,20 +110,18 @@ fn without_impls(
 }
 
 /// Begins the help about how a trait is implemented.
-fn begin_impls(texts: Texts<'_>, id: TraitId, telling: &mut Telling) {
+fn begin_impls(texts: Texts<'_>, id: TraitId, telling: &mut Telling)
+    ensures { KeepsMessage telling.old telling.new }
+{
     let how = if has_params(texts, id) { "as" } else { "for" };
     let name = Piece::Name(trait_name(texts, id));
     telling.help(with_two("`{}` is implemented {} ", name, Piece::Text(how)));
 }
 
 /// Adds an impl of a trait to the help. If more impls than are displayed come before it, nothing is added.
-fn tell_impl(
-    texts: Texts<'_>,
-    id: TraitId,
-    found: &ImplLine,
-    before: usize,
-    telling: &mut Telling,
-) {
+fn tell_impl(texts: Texts<'_>, id: TraitId, found: &ImplLine, before: usize, telling: &mut Telling)
+    ensures { KeepsMessage telling.old telling.new }
+{
     if before == 0 {
         begin_impls(texts, id, telling);
     }
@@ -140,7 +141,9 @@ pub(crate) fn tell_implemented(
     seen: &[ImplId],
     needed_by: Option<ImplId>,
     telling: &mut Telling,
-) {
+)
+    ensures { KeepsMessage telling.old telling.new }
+{
     let Some(spoken) = story.spoken(place) else {
         return;
     };
@@ -197,7 +200,9 @@ fn standing_said<'s>(story: &'s Story<'_>, leaf: usize) -> Option<Sentence<'s>> 
 }
 
 /// Adds why the goal failed: its nested goals are not displayed, or its candidates are refused.
-fn tell_leaf(story: &Story<'_>, leaf: usize, telling: &mut Telling) {
+fn tell_leaf(story: &Story<'_>, leaf: usize, telling: &mut Telling)
+    ensures { KeepsMessage telling.old telling.new }
+{
     if let Some(said) = standing_said(story, leaf) {
         telling.note(said);
     }
@@ -205,7 +210,9 @@ fn tell_leaf(story: &Story<'_>, leaf: usize, telling: &mut Telling) {
 }
 
 /// Adds what may help with the last goal of a path.
-fn tell_helps(story: &Story<'_>, path: &[usize], asking: Asking<'_>, telling: &mut Telling) {
+fn tell_helps(story: &Story<'_>, path: &[usize], asking: Asking<'_>, telling: &mut Telling)
+    ensures { KeepsMessage telling.old telling.new }
+{
     let leaf = last_of(path);
     if let Some(said) = bound_said(story, leaf, asking.supertrait.is_some()) {
         telling.help(said);
@@ -232,7 +239,9 @@ pub fn unproved(
     alloc: Global,
     story: &Story<'_>,
     asking: Asking<'_>,
-) -> Result<Diagnostic, AllocError> {
+) -> Result<Diagnostic, AllocError>
+    ensures { IfOk result (IsAbout Level.Error (Some ErrCode.E0277) asking.entry.span) }
+{
     let path = failing_path(alloc, story)?;
     let leaf = last_of(&path);
     let message = message_of(story, leaf);

@@ -1,9 +1,11 @@
 //! The names of items, and where they are in the text.
 
+ghost use Rattle.messages.specs.Told.{KeepsMessage};
+
 use crate::lines::{ImplLine, ItemLines};
 use explain_diagnostics::{Place, SourceFile, Span, on_line, text_of};
+use explain_sessions::text_tables::Workspace;
 use explain_sessions::type_terms::{AdtId, CrateId, ImplId, TraitId};
-use explain_sessions::workspace::Workspace;
 use messages::{Name, Piece, Telling, name_in, name_of};
 
 /// A text, with what it declares and where that is.
@@ -100,7 +102,9 @@ pub fn is_fundamental(texts: Texts<'_>, id: TraitId) -> bool {
 }
 
 /// Marks the trait and the type of an impl in the last child, without labels.
-pub(crate) fn mark_parts(found: &ImplLine, telling: &mut Telling) {
+pub(crate) fn mark_parts(found: &ImplLine, telling: &mut Telling)
+    ensures { KeepsMessage telling.old telling.new }
+{
     telling.mark_child(on_line(found.line, found.parts.bound));
     telling.mark_child(on_line(found.line, found.parts.subject));
 }

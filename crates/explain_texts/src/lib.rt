@@ -1,8 +1,8 @@
 //! The texts of explanations: for a header that breaks the orphan rule, and for goals that were traced.
 //!
 //! The text for a header is made from its orphan error, and the text for a goal from its trace (`explain_traces`). What is stated as checked is claimed of the trace
-//! (`explain_sessions::Claims`). A trace is explained through `tell` alone, which takes claims that hold and no others. No contract says that
-//! a sentence says no more than its claim.
+//! (`explain_sessions::Claims`). A trace is explained through `tell` alone, which takes claims that hold and no others. Contracts say which
+//! sentences have the mark of what was not checked. None says that a sentence says no more than its claim.
 #![tactic(auto)]
 
 mod doubts;
@@ -35,6 +35,6 @@ pub use story::{Story, tell};
 // The crates below whose names the crates above need too: these list this crate alone.
 pub use explain_diagnostics;
 pub use explain_sessions;
-pub use explain_sessions::{sessions, type_terms, workspace};
+pub use explain_sessions::{sessions, text_tables, type_terms};
 pub use messages;
 pub use text_printer;

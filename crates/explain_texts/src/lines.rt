@@ -1,5 +1,8 @@
 //! Where the structs, the impls and the queries of a text are.
 
+ghost use Rattle.std.specs.Prelude.{◌≡◌, ◌∷◌, ◌++◌, [], IfSome, OnOk};
+ghost use Rattle.explain_texts.specs.ItemLines.{line_numbers};
+
 use explain_diagnostics::{
     LineParts, Place, SourceFile, Span, on_line, parts_of_impl, parts_of_question,
 };
@@ -17,12 +20,16 @@ pub struct ImplLine {
 
 impl ImplLine {
     /// The span of its header.
-    pub fn header(&self) -> Span {
+    pub fn header(&self) -> Span
+        ensures { result.line ≡ self.now.line }
+    {
         on_line(self.line, self.parts.header)
     }
 
     /// The span of its where-clause with this number, counted from 0.
-    pub fn clause(&self, number: usize) -> Option<Span> {
+    pub fn clause(&self, number: usize) -> Option<Span>
+        ensures { IfSome result (λ s. s.line ≡ self.now.line) }
+    {
         let place = self.parts.clauses.get(number)?;
         Some(on_line(self.line, *place))
     }
@@ -96,14 +103,18 @@ impl ItemLines {
     }
 
     /// Adds the line of a query.
-    fn add_question(&mut self, alloc: Global, number: u32, line: &[u8]) -> Result<(), AllocError> {
+    fn add_question(&mut self, alloc: Global, number: u32, line: &[u8]) -> Result<(), AllocError>
+        ensures { OnOk result (line_numbers self.new.questions.items ≡ line_numbers self.old.questions.items ++ number ∷ []) }
+    {
         let place = asked_place(alloc, line)?;
         self.questions.push(on_line(number, place))?;
         Ok(())
     }
 
     /// Adds the line of a struct.
-    fn add_struct(&mut self, number: u32, line: &[u8]) -> Result<(), AllocError> {
+    fn add_struct(&mut self, number: u32, line: &[u8]) -> Result<(), AllocError>
+        ensures { OnOk result (line_numbers self.new.structs.items ≡ line_numbers self.old.structs.items ++ number ∷ []) }
+    {
         self.structs.push(on_line(number, whole_line(line)))?;
         Ok(())
     }

@@ -1,5 +1,11 @@
 //! What requires the goals of a path.
 
+ghost use Rattle.std.specs.Prelude.{◌≡◌, IfSome, not};
+ghost use Rattle.messages.specs.Marked.{is_marked};
+ghost use Rattle.messages.specs.Told.{KeepsMessage};
+ghost use Rattle.explain_texts.specs.Claimed.{IsClaimedLink};
+ghost use Rattle.explain_texts.specs.Marks.{is_rule_of};
+
 use crate::items::{impl_line, mark_parts, struct_line};
 use crate::sources::source_piece;
 use crate::spoken::SubjectKind;
@@ -45,7 +51,9 @@ struct CandidateLink<'s> {
 }
 
 /// The candidate of the parent goal that needs the nested goal.
-fn asking<'s>(story: &'s Story<'_>, link: Link) -> Option<CandidateLink<'s>> {
+fn asking<'s>(story: &'s Story<'_>, link: Link) -> Option<CandidateLink<'s>>
+    ensures { IfSome result (IsClaimedLink story.now link.asker) }
+{
     for (number, candidate) in story.candidates(link.asker).iter().enumerate() {
         for (clause, premise) in candidate.premises.iter().enumerate() {
             if *premise == link.asked {
@@ -74,7 +82,9 @@ fn required_for<'s>(
     story: &'s Story<'_>,
     link: Link,
     asks: Option<CandidateLink<'_>>,
-) -> Sentence<'s> {
+) -> Sentence<'s>
+    ensures { is_marked result ≡ not (is_rule_of asks.entry) }
+{
     let subject = story.subject(link.asker);
     let bound = story.bound(link.asker);
     match asks {
@@ -91,17 +101,21 @@ fn required_for<'s>(
                 source_piece(story.texts, asks.candidate.source),
             )
         }
-        Some(asks) if !asks.is_rule => with_two(
+        Some(asks) if asks.is_rule => {
+            with_two("required for `{}` to implement `{}`", subject, bound)
+        }
+        _ => with_two(
             "required for `{}` to implement `{}`, not checked",
             subject,
             bound,
         ),
-        _ => with_two("required for `{}` to implement `{}`", subject, bound),
     }
 }
 
 /// Marks the struct that the parent goal is about in the last child.
-fn mark_struct(story: &Story<'_>, link: Link, telling: &mut Telling) {
+fn mark_struct(story: &Story<'_>, link: Link, telling: &mut Telling)
+    ensures { KeepsMessage telling.old telling.new }
+{
     if let SubjectKind::Struct(id) = story.kind(link.asker)
         && let Some(span) = struct_line(story.texts, id)
     {
@@ -110,7 +124,9 @@ fn mark_struct(story: &Story<'_>, link: Link, telling: &mut Telling) {
 }
 
 /// Marks the header of the impl that needs the goal, and its bound, in the last child. Where a built-in rule does, it marks the struct.
-fn mark_asking(story: &Story<'_>, link: Link, asks: CandidateLink<'_>, telling: &mut Telling) {
+fn mark_asking(story: &Story<'_>, link: Link, asks: CandidateLink<'_>, telling: &mut Telling)
+    ensures { KeepsMessage telling.old telling.new }
+{
     let CandidateSource::Impl(id) = asks.candidate.source else {
         mark_struct(story, link, telling);
         return;
@@ -125,7 +141,9 @@ fn mark_asking(story: &Story<'_>, link: Link, asks: CandidateLink<'_>, telling: 
 }
 
 /// Adds the note for one link: what requires the nested goal, with its bound marked.
-fn tell_link(story: &Story<'_>, link: Link, is_marked: bool, telling: &mut Telling) {
+fn tell_link(story: &Story<'_>, link: Link, is_marked: bool, telling: &mut Telling)
+    ensures { KeepsMessage telling.old telling.new }
+{
     let asks = asking(story, link);
     telling.note(required_for(story, link, asks));
     if let (true, Some(asks)) = (is_marked, asks) {
@@ -134,7 +152,9 @@ fn tell_link(story: &Story<'_>, link: Link, is_marked: bool, telling: &mut Telli
 }
 
 /// Adds the note for how many links in a row are left out.
-fn tell_hidden(hidden: usize, telling: &mut Telling) {
+fn tell_hidden(hidden: usize, telling: &mut Telling)
+    ensures { KeepsMessage telling.old telling.new }
+{
     let template = match hidden {
         0 => return,
         1 => "{} redundant requirement hidden",
@@ -165,7 +185,9 @@ fn is_asked_by(story: &Story<'_>, link: Option<Link>, id: Option<ImplId>) -> boo
 }
 
 /// Adds the note that the goal at index 0 is a supertrait of a header, by its number from 1. For a query it adds nothing.
-pub(crate) fn tell_supertrait(story: &Story<'_>, supertrait: Option<u32>, telling: &mut Telling) {
+pub(crate) fn tell_supertrait(story: &Story<'_>, supertrait: Option<u32>, telling: &mut Telling)
+    ensures { KeepsMessage telling.old telling.new }
+{
     let Some(number) = supertrait else {
         return;
     };
@@ -178,7 +200,9 @@ pub(crate) fn tell_supertrait(story: &Story<'_>, supertrait: Option<u32>, tellin
 
 /// Adds the notes for what requires the goals of a path, from the inside out. For goals in a row by one impl, only the first and the last
 /// are added.
-pub(crate) fn tell_links(story: &Story<'_>, path: &[usize], telling: &mut Telling) {
+pub(crate) fn tell_links(story: &Story<'_>, path: &[usize], telling: &mut Telling)
+    ensures { KeepsMessage telling.old telling.new }
+{
     let mut hidden = 0usize;
     let mut last: Option<ImplId> = None;
     for number in 0..path.len() {

@@ -1,5 +1,10 @@
 //! The text for a query that was answered `open`.
 
+ghost use Rattle.std.specs.Prelude.{◌≡◌, ◌⊎◌, false, true, not, IfOk};
+ghost use Rattle.messages.specs.Marked.{is_marked, says_unchecked};
+ghost use Rattle.messages.specs.Told.{IsAbout, KeepsMessage};
+ghost use Rattle.explain_texts.specs.Claimed.{claims_chance, claims_rule};
+
 use crate::failures::Asking;
 use crate::reasons::{Reason, is_left, open_path, reason_of, tell_limit, tell_path};
 use crate::sources::source_piece;
@@ -12,7 +17,9 @@ use messages::{Sentence, Telling, plain, with_one};
 use std::alloc::{AllocError, Global};
 
 /// The sentence for a candidate that may apply, which says so if that was not checked.
-pub(crate) fn chance(may_apply: bool) -> &'static str {
+pub(crate) fn chance(may_apply: bool) -> &'static str
+    ensures { says_unchecked result.now ≡ not may_apply }
+{
     if may_apply {
         "the {} may apply"
     } else {
@@ -27,7 +34,9 @@ fn way_said(
     candidate: &CandidateNode,
     holds: bool,
     number: usize,
-) -> Sentence<'static> {
+) -> Sentence<'static>
+    ensures { is_marked result ≡ false → (claims_chance story.now 0 number ≡ true) ⊎ (claims_rule story.now 0 number ≡ true) }
+{
     let template = if !holds || candidate.certainty != Some(Certainty::Yes) {
         chance(story.may_apply(0, number))
     } else if story.is_rule(0, number) {
@@ -40,7 +49,9 @@ fn way_said(
 
 /// Adds the notes for the candidates that apply, or may apply. If the self type is a variable, none is added, because the one candidate
 /// stands for all impls.
-fn tell_ways(story: &Story<'_>, telling: &mut Telling) {
+fn tell_ways(story: &Story<'_>, telling: &mut Telling)
+    ensures { KeepsMessage telling.old telling.new }
+{
     if let SubjectKind::Unknown = story.kind(0) {
         return;
     }
@@ -63,7 +74,9 @@ pub fn left_open(
     alloc: Global,
     story: &Story<'_>,
     asking: Asking<'_>,
-) -> Result<Diagnostic, AllocError> {
+) -> Result<Diagnostic, AllocError>
+    ensures { IfOk result (IsAbout Level.Note None asking.entry.span) }
+{
     let message = with_one(
         "`{}` holds, or some crate could make it hold",
         story.reference(0),

@@ -1,5 +1,10 @@
 //! Why a goal is not refused: from it down to the first goal that holds, that some crate may give an impl, or that is not settled.
 
+ghost use Rattle.std.specs.Prelude.{◌≡◌, true, IfSome};
+ghost use Rattle.messages.specs.Marked.{is_marked};
+ghost use Rattle.messages.specs.Told.{KeepsMessage};
+ghost use Rattle.explain_texts.specs.Reasons.{IsClaimed};
+
 use crate::doubts::{tell_deeper, tell_given_up};
 use crate::failures::{Asking, is_of_trait};
 use crate::items::{
@@ -94,7 +99,9 @@ pub(crate) fn open_path(
 }
 
 /// The limit that a goal met, if it did.
-fn limit_of(story: &Story<'_>, leaf: usize, may_run_out: bool) -> Option<Reason> {
+fn limit_of(story: &Story<'_>, leaf: usize, may_run_out: bool) -> Option<Reason>
+    ensures { IfSome result (IsClaimed story.now leaf) }
+{
     if story.answer(leaf) != Answer::Maybe(MaybeCause::Overflow) {
         None
     } else if story.is_cut(leaf) && !may_run_out {
@@ -117,7 +124,9 @@ fn is_overlapped(story: &Story<'_>, leaf: usize) -> bool {
 }
 
 /// Why a goal is not refused, where the path of goals ends there.
-pub(crate) fn reason_of(story: &Story<'_>, leaf: usize, asking: Asking<'_>) -> Reason {
+pub(crate) fn reason_of(story: &Story<'_>, leaf: usize, asking: Asking<'_>) -> Reason
+    ensures { IsClaimed story.now leaf result }
+{
     if story.is_held(leaf) {
         return Reason::Holds;
     }
@@ -241,7 +250,10 @@ pub(crate) fn reason_said<'s>(
     place: usize,
     reason: Reason,
     asking: Asking<'_>,
-) -> Sentence<'s> {
+) -> Sentence<'s>
+    requires { IsClaimed story.now place reason }
+    ensures { reason ≡ Reason.Answered → is_marked result ≡ true }
+{
     let depth = Piece::Number(asking.depth as usize);
     let reference = story.reference(place);
     match (reason, story.spoken(place)) {
@@ -272,12 +284,16 @@ pub(crate) fn reason_said<'s>(
             "`{}` is not refused within the limits of the search",
             reference,
         ),
-        _ => with_one("`{}` is not refused", reference),
+        (Reason::Open | Reason::Added(_) | Reason::Unknown(_), _) => {
+            with_one("`{}` is not refused", reference)
+        }
     }
 }
 
 /// Tells what may help where a limit was met.
-pub(crate) fn tell_limit(reason: Reason, depth: u32, telling: &mut Telling) {
+pub(crate) fn tell_limit(reason: Reason, depth: u32, telling: &mut Telling)
+    ensures { KeepsMessage telling.old telling.new }
+{
     match reason {
         Reason::Depth => tell_deeper(depth, telling),
         Reason::Limits => tell_given_up(telling),
@@ -298,7 +314,9 @@ pub(crate) fn tell_path(
     path: &[usize],
     asking: Asking<'_>,
     telling: &mut Telling,
-) -> Reason {
+) -> Reason
+    ensures { KeepsMessage telling.old telling.new }
+{
     let leaf = last_of(path);
     let reason = reason_of(story, leaf, asking);
     telling.note(reason_said(story, leaf, reason, asking));
@@ -307,7 +325,9 @@ pub(crate) fn tell_path(
 }
 
 /// Marks who asks in the last child, if that stands in a line.
-fn mark_asking(asking: Asking<'_>, telling: &mut Telling) {
+fn mark_asking(asking: Asking<'_>, telling: &mut Telling)
+    ensures { KeepsMessage telling.old telling.new }
+{
     if asking.span.line > 0 {
         telling.mark_child(asking.span);
     }

@@ -1,5 +1,10 @@
 //! Why the candidates of a goal are refused.
 
+ghost use Rattle.std.specs.Prelude.{◌≡◌, ◌≢◌, not};
+ghost use Rattle.messages.specs.Marked.{is_marked, says_unchecked};
+ghost use Rattle.messages.specs.Told.{KeepsMessage};
+ghost use Rattle.explain_texts.specs.Claimed.{claims_refused};
+
 use crate::sources::source_piece;
 use crate::story::{Story, refused_premise};
 use explain_diagnostics::LIST_LIMIT;
@@ -17,7 +22,9 @@ pub(crate) enum Refusal {
 }
 
 /// The words for a goal that is refused in this sense. They say so if it was not checked.
-fn why_said(story: &Story<'_>, place: usize, refusal: Refusal) -> &'static str {
+fn why_said(story: &Story<'_>, place: usize, refusal: Refusal) -> &'static str
+    ensures { refusal ≡ Refusal.NoCrate → says_unchecked result.now ≡ not (claims_refused story.now place) }
+{
     match refusal {
         Refusal::NotProved => "which was not proved",
         Refusal::NoCrate => {
@@ -37,7 +44,9 @@ fn candidate_said<'s>(
     candidate: &CandidateNode,
     is_rule: bool,
     refusal: Refusal,
-) -> Sentence<'s> {
+) -> Sentence<'s>
+    ensures { candidate.now.source ≢ CandidateSource.CoherenceUnknowable → is_marked result ≡ not is_rule }
+{
     let name = source_piece(story.texts, candidate.source);
     let Some(premise) = refused_premise(story, candidate) else {
         let template = match (candidate.certainty.is_some(), is_rule) {
@@ -50,7 +59,7 @@ fn candidate_said<'s>(
     };
     let needs = story.reference(premise);
     let why = Piece::Text(why_said(story, premise, refusal));
-    if candidate.source == CandidateSource::CoherenceUnknowable {
+    if let CandidateSource::CoherenceUnknowable = candidate.source {
         let template = "an impl of a crate that is not seen would need `{}`, {}";
         with_two(template, needs, why)
     } else {
@@ -64,12 +73,9 @@ fn candidate_said<'s>(
 }
 
 /// Adds why each candidate of a goal is refused.
-pub(crate) fn tell_refused(
-    story: &Story<'_>,
-    place: usize,
-    refusal: Refusal,
-    telling: &mut Telling,
-) {
+pub(crate) fn tell_refused(story: &Story<'_>, place: usize, refusal: Refusal, telling: &mut Telling)
+    ensures { KeepsMessage telling.old telling.new }
+{
     for (index, candidate) in story.candidates(place).iter().enumerate() {
         if index == LIST_LIMIT {
             telling.note(plain("others fit too"));

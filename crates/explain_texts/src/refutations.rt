@@ -1,5 +1,10 @@
 //! The text for a query that was answered `no`.
 
+ghost use Rattle.std.specs.Prelude.{◌≡◌, false, true, IfOk};
+ghost use Rattle.messages.specs.Marked.{is_marked};
+ghost use Rattle.messages.specs.Told.{IsAbout, KeepsMessage};
+ghost use Rattle.explain_texts.specs.Claimed.{claims_of};
+
 use crate::items::{Texts, has_rules, is_fundamental, trait_name};
 use crate::refused::{Refusal, tell_refused};
 use crate::spoken::Spoken;
@@ -11,7 +16,9 @@ use messages::{Piece, Sentence, Telling, plain, with_one, with_three, with_two};
 use std::alloc::{AllocError, Global};
 
 /// The sentence that nothing fits. It says so if that was not checked.
-fn nothing_fits<'s>(story: &Story<'s>, spoken: &Spoken) -> Sentence<'s> {
+fn nothing_fits<'s>(story: &Story<'s>, spoken: &Spoken) -> Sentence<'s>
+    ensures { is_marked result ≡ false → (claims_of story.now).no_impl ≡ true }
+{
     let texts = story.texts;
     let template = if !has_rules(texts, spoken.trait_id) {
         if story.has_no_impl() {
@@ -73,7 +80,9 @@ fn unseen_why<'s>(
 }
 
 /// Adds why nothing in the view, and nothing outside it, proves the trait reference.
-fn tell_whys(story: &Story<'_>, telling: &mut Telling) {
+fn tell_whys(story: &Story<'_>, telling: &mut Telling)
+    ensures { KeepsMessage telling.old telling.new }
+{
     tell_refused(story, 0, Refusal::NoCrate, telling);
     let Some(spoken) = story.spoken(0) else {
         return;
@@ -87,7 +96,9 @@ fn tell_whys(story: &Story<'_>, telling: &mut Telling) {
 }
 
 /// The diagnostic for a query that was answered `no`, at this span.
-pub fn refuted(alloc: Global, story: &Story<'_>, span: Span) -> Result<Diagnostic, AllocError> {
+pub fn refuted(alloc: Global, story: &Story<'_>, span: Span) -> Result<Diagnostic, AllocError>
+    ensures { IfOk result (IsAbout Level.Note None span) }
+{
     let message = with_one(
         "no crate that may be linked with this one can make `{}` hold",
         story.reference(0),

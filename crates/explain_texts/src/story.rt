@@ -1,8 +1,11 @@
 //! A trace with its trait references rendered.
 
+ghost use Rattle.std.specs.Prelude.{◌≡◌};
 ghost use Rattle.explain_sessions.specs.ExplainTraces.Walking.{ReferencesHeld};
 ghost use Rattle.explain_sessions.specs.Claims.{ClaimsHold};
 ghost use Rattle.explain_sessions.specs.Walked.{WalkHeld};
+ghost use Rattle.explain_texts.specs.Claimed.{claimed_adder, claimed_unseen, claims_chance, claims_held, claims_of, claims_refused, claims_rule};
+ghost use Rattle.explain_texts.specs.Claimed.{shown_place, goal_standing};
 
 use crate::items::Texts;
 use crate::spoken::{Spoken, SubjectKind, speak};
@@ -75,16 +78,6 @@ pub fn tell<'w>(
     })
 }
 
-/// Whether the candidate with this number, of this goal, is among these.
-fn is_among(candidates: &[(usize, usize)], place: usize, number: usize) -> bool {
-    for candidate in candidates {
-        if candidate.0 == place && candidate.1 == number {
-            return true;
-        }
-    }
-    false
-}
-
 impl Story<'_> {
     /// How many goals there are.
     pub(crate) fn len(&self) -> usize {
@@ -155,8 +148,10 @@ impl Story<'_> {
     }
 
     /// Whether the candidates of a goal are displayed, and where.
-    pub(crate) fn standing(&self, place: usize) -> Standing {
-        match self.walk.node(place) {
+    pub(crate) fn standing(&self, place: usize) -> Standing
+        ensures { result ≡ goal_standing self.now place }
+    {
+        match self.walk.nodes.get(place) {
             Some(node) => node.standing,
             None => Standing::Cut,
         }
@@ -193,7 +188,9 @@ impl Story<'_> {
     }
 
     /// The index that has the candidates of a goal. It is another one if the same goal is displayed already.
-    pub(crate) fn shown_at(&self, place: usize) -> usize {
+    pub(crate) fn shown_at(&self, place: usize) -> usize
+        ensures { result ≡ shown_place self.now place }
+    {
         match self.standing(place) {
             Standing::Same(earlier) => earlier,
             _ => place,
@@ -209,56 +206,68 @@ impl Story<'_> {
     }
 
     /// Whether it is claimed that the candidate with this number, of this goal, is a rule.
-    pub(crate) fn is_rule(&self, place: usize, number: usize) -> bool {
-        is_among(&self.claims.candidates.rules, self.shown_at(place), number)
+    pub(crate) fn is_rule(&self, place: usize, number: usize) -> bool
+        ensures { result ≡ claims_rule self.now place number }
+    {
+        let shown = self.shown_at(place);
+        self.claims.candidates.rules.contains(&(shown, number))
     }
 
     /// Whether it is claimed that the candidate with this number, of this goal, may apply.
-    pub(crate) fn may_apply(&self, place: usize, number: usize) -> bool {
-        is_among(
-            &self.claims.candidates.chances,
-            self.shown_at(place),
-            number,
-        )
+    pub(crate) fn may_apply(&self, place: usize, number: usize) -> bool
+        ensures { result ≡ claims_chance self.now place number }
+    {
+        let shown = self.shown_at(place);
+        self.claims.candidates.chances.contains(&(shown, number))
     }
 
     /// Whether it is claimed that a goal has no proof in any linked set with the crate.
-    pub(crate) fn is_refused_everywhere(&self, place: usize) -> bool {
+    pub(crate) fn is_refused_everywhere(&self, place: usize) -> bool
+        ensures { result ≡ claims_refused self.now place }
+    {
         self.claims.refused.contains(&place)
     }
 
     /// Whether it is claimed that a goal has a proof.
-    pub(crate) fn is_held(&self, place: usize) -> bool {
+    pub(crate) fn is_held(&self, place: usize) -> bool
+        ensures { result ≡ claims_held self.now place }
+    {
         self.claims.held.contains(&place)
     }
 
     /// Which crates outside the view may have an impl for a goal, if that is claimed. The inner `None` says that the goal is knowable.
-    pub(crate) fn unseen(&self, place: usize) -> Option<Option<Conflict>> {
-        for found in &self.claims.unseen {
-            if found.0 == place {
-                return Some(found.1);
-            }
-        }
-        None
+    pub(crate) fn unseen(&self, place: usize) -> Option<Option<Conflict>>
+        ensures { result ≡ claimed_unseen self.now place }
+    {
+        self.claims
+            .unseen
+            .iter()
+            .find(|found| found.0 == place)
+            .map(|found| found.1)
     }
 
     /// Who may write an impl for a goal that is not seen, where that is claimed.
-    pub(crate) fn adder(&self, place: usize) -> Option<Adder> {
-        for found in &self.claims.adders {
-            if found.0 == place {
-                return Some(found.1);
-            }
-        }
-        None
+    pub(crate) fn adder(&self, place: usize) -> Option<Adder>
+        ensures { result ≡ claimed_adder self.now place }
+    {
+        self.claims
+            .adders
+            .iter()
+            .find(|found| found.0 == place)
+            .map(|found| found.1)
     }
 
     /// Whether it is claimed that no impl fits the goal at index 0.
-    pub(crate) fn has_no_impl(&self) -> bool {
+    pub(crate) fn has_no_impl(&self) -> bool
+        ensures { result ≡ (claims_of self.now).no_impl }
+    {
         self.claims.no_impl
     }
 
     /// Whether it is claimed that no built-in rule fits the goal at index 0.
-    pub(crate) fn has_no_built_in_rule(&self) -> bool {
+    pub(crate) fn has_no_built_in_rule(&self) -> bool
+        ensures { result ≡ (claims_of self.now).no_built_in_rule }
+    {
         self.claims.no_built_in_rule
     }
 

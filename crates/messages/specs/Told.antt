@@ -1,11 +1,13 @@
 -- What a call adds to a diagnostic that is being written. What the texts say is not stated.
-use Rattle.std.specs.Prelude.{◌≡◌, ℕ, Bool, List, [], ◌∷◌, ◌++◌, map}
+use Rattle.std.specs.Prelude.{◌≡◌, ℕ, Bool, true, false, List, [], ◌∷◌, ◌++◌, map, Option}
 use Rattle.explain_diagnostics.specs.declared.diagnostic.Diagnostic.{Diagnostic}
+use Rattle.explain_diagnostics.specs.declared.diagnostic.ErrCode.{ErrCode}
 use Rattle.explain_diagnostics.specs.declared.diagnostic.Level.{Level}
 use Rattle.explain_diagnostics.specs.declared.diagnostic.ProofRow.{ProofRow}
 use Rattle.explain_diagnostics.specs.declared.diagnostic.SpanLabel.{SpanLabel}
 use Rattle.explain_diagnostics.specs.declared.diagnostic.Subdiagnostic.{Subdiagnostic}
 use Rattle.explain_diagnostics.specs.declared.span.Span.{Span}
+use Rattle.messages.specs.declared.telling.Telling.{Telling}
 
 -- Which parts are marked, and which of them the message is about.
 abbrev pub marks : List SpanLabel → List (Span × Bool)
@@ -30,3 +32,16 @@ AddsChild old new l = (child_levels new.children.items ≡ child_levels old.chil
 -- One row behind the others, and nothing else.
 abbrev pub AddsRow : Diagnostic → Diagnostic → ℕ → Type 0
 AddsRow old new d = (depths new.proof.items ≡ depths old.proof.items ++ d ∷ []) × (new ≡ record old { proof = new.proof })
+
+-- The level, the code and the marks of the message stay. A refused request stays refused.
+pub record KeepsMessage (old new : Telling) : Type 0 where
+  pub level : new.told.level ≡ old.told.level
+  pub code : new.told.code ≡ old.told.code
+  pub marks : new.told.spans ≡ old.told.spans
+  pub refused : new.is_refused ≡ false → old.is_refused ≡ false
+
+-- A message of this level and code, which is about this part alone.
+pub record IsAbout (level : Level) (code : Option ErrCode) (span : Span) (d : Diagnostic) : Type 0 where
+  pub level_is : d.level ≡ level
+  pub code_is : d.code ≡ code
+  pub marked : marks d.spans.items ≡ (span, true) ∷ []

@@ -1,7 +1,7 @@
 //! Names of a text.
 
+use text_tables::Workspace;
 use type_terms::CrateId;
-use workspace::Workspace;
 
 /// A name. It is displayed as `cut_text` displays a text.
 #[derive(Clone, Copy)]

@@ -3,6 +3,9 @@
 //! A sentence borrows its parts and owns nothing. So choosing one takes no memory and cannot fail. `Telling` takes sentences and writes
 //! them.
 
+ghost use Rattle.std.specs.Prelude.{◌≡◌};
+ghost use Rattle.messages.specs.Marked.{is_marked, says_unchecked};
+
 use crate::names::Name;
 use explain_diagnostics::{TYPE_LIMIT, TextWriter};
 use std::alloc::{AllocError, Global};
@@ -33,7 +36,9 @@ pub struct Sentence<'t> {
 pub const NONE: Piece<'static> = Piece::Text("");
 
 /// A sentence without parts.
-pub fn plain(template: &'static str) -> Sentence<'static> {
+pub fn plain(template: &'static str) -> Sentence<'static>
+    ensures { is_marked result ≡ says_unchecked template.now }
+{
     Sentence {
         template,
         pieces: [NONE, NONE, NONE, NONE],
@@ -41,7 +46,9 @@ pub fn plain(template: &'static str) -> Sentence<'static> {
 }
 
 /// A sentence with one part.
-pub fn with_one<'t>(template: &'static str, first: Piece<'t>) -> Sentence<'t> {
+pub fn with_one<'t>(template: &'static str, first: Piece<'t>) -> Sentence<'t>
+    ensures { is_marked result ≡ says_unchecked template.now }
+{
     Sentence {
         template,
         pieces: [first, NONE, NONE, NONE],
@@ -49,7 +56,9 @@ pub fn with_one<'t>(template: &'static str, first: Piece<'t>) -> Sentence<'t> {
 }
 
 /// A sentence with two parts.
-pub fn with_two<'t>(template: &'static str, first: Piece<'t>, second: Piece<'t>) -> Sentence<'t> {
+pub fn with_two<'t>(template: &'static str, first: Piece<'t>, second: Piece<'t>) -> Sentence<'t>
+    ensures { is_marked result ≡ says_unchecked template.now }
+{
     Sentence {
         template,
         pieces: [first, second, NONE, NONE],
@@ -62,7 +71,9 @@ pub fn with_three<'t>(
     first: Piece<'t>,
     second: Piece<'t>,
     third: Piece<'t>,
-) -> Sentence<'t> {
+) -> Sentence<'t>
+    ensures { is_marked result ≡ says_unchecked template.now }
+{
     Sentence {
         template,
         pieces: [first, second, third, NONE],
@@ -70,7 +81,9 @@ pub fn with_three<'t>(
 }
 
 /// A sentence with four parts.
-pub fn with_four<'t>(template: &'static str, pieces: [Piece<'t>; 4]) -> Sentence<'t> {
+pub fn with_four<'t>(template: &'static str, pieces: [Piece<'t>; 4]) -> Sentence<'t>
+    ensures { is_marked result ≡ says_unchecked template.now }
+{
     Sentence { template, pieces }
 }
 

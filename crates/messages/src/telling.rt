@@ -1,9 +1,9 @@
 //! Diagnostics that are being written.
 
-ghost use Rattle.std.specs.Prelude.{◌≡◌, false, true, IfNone, IfOk, IfSome, OnOk, OnSome};
+ghost use Rattle.std.specs.Prelude.{◌≡◌, [], false, true, IfNone, IfOk, IfSome, OnOk, OnSome};
 ghost use Rattle.std.specs.declared.result.Result.TheVariants.{Ok};
 ghost use Rattle.explain_diagnostics.specs.declared.diagnostic.Level.TheVariants.{Help, Note};
-ghost use Rattle.messages.specs.Told.{AddsChild, AddsMark, AddsRow};
+ghost use Rattle.messages.specs.Told.{AddsChild, AddsMark, AddsRow, KeepsMessage};
 
 use crate::sentences::{Piece, Sentence, impl_line_in, plain, sentence_text, with_one};
 use explain_diagnostics::{Diagnostic, ErrCode, Level, ProofRow, Span, SpanLabel, Subdiagnostic};
@@ -38,6 +38,7 @@ impl Telling {
     ) -> Telling
         ensures level { result.told.level ≡ level }
         ensures code { result.told.code ≡ code }
+        ensures marks { result.told.spans.items ≡ [] }
     {
         let (message, is_refused) = match sentence_text(alloc, message) {
             Ok(message) => (message, false),
@@ -135,7 +136,7 @@ impl Telling {
     /// Adds a child without a span.
     fn add_child(&mut self, level: Level, message: Sentence<'_>)
         ensures told { self.new.is_refused ≡ false → AddsChild self.old.told self.new.told level }
-        ensures stays { self.new.is_refused ≡ false → self.old.is_refused ≡ false }
+        ensures message { KeepsMessage self.old self.new }
     {
         if let Some(message) = self.text_of(message) {
             let child = Subdiagnostic::new(self.alloc, level, message);
@@ -146,7 +147,7 @@ impl Telling {
     /// Adds a note without a span.
     pub fn note(&mut self, message: Sentence<'_>)
         ensures told { self.new.is_refused ≡ false → AddsChild self.old.told self.new.told Note }
-        ensures stays { self.new.is_refused ≡ false → self.old.is_refused ≡ false }
+        ensures message { KeepsMessage self.old self.new }
     {
         self.add_child(Level::Note, message);
     }
@@ -154,14 +155,14 @@ impl Telling {
     /// Adds a help without a span.
     pub fn help(&mut self, message: Sentence<'_>)
         ensures told { self.new.is_refused ≡ false → AddsChild self.old.told self.new.told Help }
-        ensures stays { self.new.is_refused ≡ false → self.old.is_refused ≡ false }
+        ensures message { KeepsMessage self.old self.new }
     {
         self.add_child(Level::Help, message);
     }
 
     /// Adds a mark with a label to the last child.
     fn mark_last(&mut self, span: Span, is_primary: bool, label: Sentence<'_>)
-        ensures { self.new.is_refused ≡ false → self.old.is_refused ≡ false }
+        ensures { KeepsMessage self.old self.new }
     {
         if let Some(label) = self.text_of(label) {
             if let Some(child) = self.told.children.last_mut() {
@@ -177,21 +178,21 @@ impl Telling {
 
     /// Marks what the last child is about, without a label.
     pub fn mark_child(&mut self, span: Span)
-        ensures { self.new.is_refused ≡ false → self.old.is_refused ≡ false }
+        ensures { KeepsMessage self.old self.new }
     {
         self.mark_last(span, true, plain(""));
     }
 
     /// Marks another part in the last child, with a label.
     pub fn mark_child_beside(&mut self, span: Span, label: Sentence<'_>)
-        ensures { self.new.is_refused ≡ false → self.old.is_refused ≡ false }
+        ensures { KeepsMessage self.old self.new }
     {
         self.mark_last(span, false, label);
     }
 
     /// Appends to the message of the last child.
     pub fn extend_child(&mut self, more: Sentence<'_>)
-        ensures { self.new.is_refused ≡ false → self.old.is_refused ≡ false }
+        ensures { KeepsMessage self.old self.new }
     {
         if let Some(more) = self.text_of(more) {
             if let Some(child) = self.told.children.last_mut() {
@@ -203,7 +204,7 @@ impl Telling {
     /// Adds a row of a proof: what holds, how deep it is below the first row, and why it holds.
     pub fn row(&mut self, depth: usize, goal: Piece<'_>, reason: Sentence<'_>)
         ensures told { self.new.is_refused ≡ false → AddsRow self.old.told self.new.told depth }
-        ensures stays { self.new.is_refused ≡ false → self.old.is_refused ≡ false }
+        ensures message { KeepsMessage self.old self.new }
     {
         let impl_line = impl_line_in(reason);
         let goal = self.text_of(with_one("{}", goal));
