@@ -1,14 +1,13 @@
 # From which sources a program was built. Sourced by ./celtisdarts, ./test, tools/release and tools/library. They set `here` to the
 # folder of the repository.
 #
-# There are two programs: celtisdarts, and celtisdarts_explain, which also gives reasons. The functions act on the current one, which
-# is celtisdarts unless `of_program NAME` selected another. It may also be the library for C, an archive that tools/library makes.
-# Its notes have the same form.
+# There is one program, celtisdarts. The functions act on it, unless `of_program NAME` selected the library for C, an archive that
+# tools/library makes. Its notes have the same form.
 #
 # Next to a proved program, NAME.proved has three lines: `program` with the sum of its bytes, `sources` with the sum of what it was
 # built from, and `toolchain` with what `rt version` printed then. Sums are those of sha256sum.
 # shellcheck shell=sh disable=SC2034,SC2154
-programs="celtisdarts celtisdarts_explain"
+programs=celtisdarts
 library=celtisdarts_c
 
 # of_program NAME: selects the current program

@@ -1,13 +1,13 @@
-"""The program that explains: whatever it says, the lines of the answer are those of the other program.
+"""The option --explain: whatever it says, the lines of the answer are those without it.
 
     tools/check explained                   each example, 200 hostile texts, each of the wide ones, and five of 1 MiB
     tools/check explained --texts 20000 --seed 2
     tools/check explained --show 17         prints that text
 
-Of each text: the exit status is that of the other program; as JSON each line is an object with the keys of `rustc --error-format=json`
-and `answer`, and these answers are the other program's lines, in their order; as text it prints the same answers, with what is `rendered`
-after each; no row of an excerpt or of a proof has more than 100 columns. It takes at most three times as much of the processor as the
-other one, half a second, and a second for each 10 MB that it prints, within 10 seconds and 512 MB. For an example it prints the same text
+Of each text: the exit status is that without it; as JSON each line is an object with the keys of `rustc --error-format=json`
+and `answer`, and these answers are the lines without it, in their order; as text it prints the same answers, with what is `rendered`
+after each; no row of an excerpt or of a proof has more than 100 columns. It takes at most three times as much of the processor as
+without it, half a second, and a second for each 10 MB that it prints, within 10 seconds and 512 MB. For an example it prints the same text
 with colours, with nothing but colours added. A text of 100,000 bytes and more is not tried as JSON: the lines of the answer have to be in
 the output, in their order.
 
@@ -58,21 +58,20 @@ def rows_of(printed: bytes) -> Iterator[bytes]:
 
 
 class Checks:
-    """Both programs, and which text took the longest."""
+    """The program, and which text took the longest."""
 
     def __init__(self, given: argparse.Namespace) -> None:
-        self.answering = given.answering or program("celtisdarts")
-        self.explaining = given.explaining or program("celtisdarts_explain")
+        self.path = given.program or program("celtisdarts")
         self.slowest = (0.0, 0.0, "")
 
-    def run(self, path: str, it: Text, *words: str) -> Ended:
-        ended = run([path, it.depth, *words], it.text, LIMITS)
+    def run(self, it: Text, *words: str) -> Ended:
+        ended = run([self.path, it.depth, *words], it.text, LIMITS)
         if ended.status < 0:
-            raise Wrong(f"{path.rpartition('/')[2]} {' '.join([it.depth, *words])} died by signal {-ended.status}")
+            raise Wrong(f"{' '.join([it.depth, *words])} died by signal {-ended.status}")
         return ended
 
     def check(self, it: Text) -> None:
-        answer, printed = self.run(self.answering, it), self.run(self.explaining, it)
+        answer, printed = self.run(it), self.run(it, "--explain")
         self.slowest = max(self.slowest, (printed.seconds, answer.seconds, it.name))
         if printed.seconds > 3 * answer.seconds + 0.5 + len(printed.output) / PRINTED_IN_A_SECOND:
             raise Wrong(f"{printed.seconds:.2f} s, where the answer takes {answer.seconds:.2f}")
@@ -85,11 +84,11 @@ class Checks:
             self.check_json(it, answer, printed.output)
         else:
             check_lines(answer.output, printed.output)
-        if it.is_colored and COLOR.sub(b"", self.run(self.explaining, it, "--color", "always").output) != printed.output:
+        if it.is_colored and COLOR.sub(b"", self.run(it, "--explain", "--color", "always").output) != printed.output:
             raise Wrong("with colours another text")
 
     def check_json(self, it: Text, answer: Ended, printed: bytes) -> None:
-        ended = self.run(self.explaining, it, "--json")
+        ended = self.run(it, "--explain", "--json")
         if ended.status != answer.status:
             raise Wrong(f"status {ended.status} as JSON, where the answer has {answer.status}")
         objects = read_lines(ended.output)
@@ -146,8 +145,7 @@ def add_words(reader: argparse.ArgumentParser) -> None:
     reader.add_argument("--texts", type=int, default=200)
     reader.add_argument("--seed", default="1")
     reader.add_argument("--show", type=int)
-    reader.add_argument("--answering")
-    reader.add_argument("--explaining")
+    reader.add_argument("--program")
 
 
 def check(tally: Tally, given: argparse.Namespace) -> None:

@@ -1,4 +1,4 @@
-"""What the program that explains printed as JSON, compared with what it prints as text.
+"""What --explain printed as JSON, compared with what it prints as text.
 
     tools/check explained_json FILE < OUTPUT      OUTPUT is that of --json, FILE what an example has as `explained`
 

@@ -1,4 +1,4 @@
-"""A separate checker of the proofs that the program that explains prints, by docs/FORMAT.md and the lines of the text.
+"""A separate checker of the proofs that --explain prints, by docs/FORMAT.md and the lines of the text.
 
 Each row is compared with its rule. For an impl, its header is the goal, with its where-clauses below it, one for one. A where-clause is one
 of the query, or has the goal as a supertrait. A built-in rule has the premises of the page. A row that is marked `not checked` has to be a

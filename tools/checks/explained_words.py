@@ -1,4 +1,4 @@
-"""What the program that explains says of the answers: each claim is queried again, or looked up in the text.
+"""What --explain says of the answers: each claim is queried again, or looked up in the text.
 
     tools/check explained_words                   each example, and 400 texts that are made here
     tools/check explained_words --texts 20000 --seed 2
@@ -27,7 +27,7 @@ For each `prove` and `refute` query, and each unproved supertrait of a header, i
                                                                           for each variable: each crate that was accepted is, except for pairs of
                                                                           other impls that are disjoint only without it, and `prove` as before
 
-The other program answers the queries, because its answers are proved. A case is a text. The line before the last has the number of claims
+Without it the program answers the queries, because answers are proved. A case is a text. The line before the last has the number of claims
 of each kind.
 """
 from __future__ import annotations
@@ -460,16 +460,15 @@ class Claims:
 
 
 class Words:
-    """Both programs, and how many claims of each kind were confirmed."""
+    """The program, and how many claims of each kind were confirmed."""
 
     def __init__(self, given: argparse.Namespace) -> None:
-        self.answering = given.answering or program("celtisdarts")
-        self.explaining = given.explaining or program("celtisdarts_explain")
+        self.path = given.program or program("celtisdarts")
         self.kinds: Counter[str] = Counter()
 
     def fault_of(self, text: bytes, depth: str) -> Optional[str]:
         """What is wrong with the explanations of a text."""
-        status, output, *_ = run([self.explaining, depth, "--json"], text, LIMITS)
+        status, output, *_ = run([self.path, depth, "--explain", "--json"], text, LIMITS)
         if status:
             return None
         claims = Claims(Text(text.decode("latin-1").split("\n")))
@@ -479,8 +478,8 @@ class Words:
         for it in lines:
             if it.message:
                 claims.add_explanation(it.answer, it.message)
-        claims.answer_again(self.answering, depth)
-        claims.write(self.answering, depth)
+        claims.answer_again(self.path, depth)
+        claims.write(self.path, depth)
         self.kinds.update(claims.confirmed)
         return "\n".join(claims.wrong) or None
 
@@ -533,15 +532,14 @@ def add_words(reader: argparse.ArgumentParser) -> None:
     reader.add_argument("--seed", type=int, default=1)
     reader.add_argument("--queries", type=int, default=0)
     reader.add_argument("--show", type=int)
-    reader.add_argument("--answering")
-    reader.add_argument("--explaining")
+    reader.add_argument("--program")
 
 
 def check(tally: Tally, given: argparse.Namespace) -> None:
     words = Words(given)
     if given.show is not None:
         text = made(given, given.show)
-        print(text.decode() + run([words.explaining, "8"], text).output.decode())
+        print(text.decode() + run([words.path, "8", "--explain"], text).output.decode())
         sys.exit(0)
     for name, text, depth in texts(given):
         tally.report(name, words.fault_of(text, depth))

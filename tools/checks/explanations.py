@@ -1,7 +1,7 @@
 """Explanations written by hand: for texts/explained/NAME.txt, at depth 8, `--explain` has to print NAME.expected.
 
     tools/check explanations
-    tools/check explanations --explaining FILE
+    tools/check explanations --program FILE
 
 The expected output was written by hand from the rules, before the program ran: the cause at the end of the chain, with its names, lines
 and rule, and what to write instead. If the program says the same as well in other words, its words were taken. Twelve of the texts are
@@ -22,10 +22,10 @@ DEPTH = "8"
 WAITING: dict[str, str] = {}
 
 
-def hold(explaining: str, name: str) -> None:
+def hold(path: str, name: str) -> None:
     """A text is explained as expected, or waits for it."""
     text, expected = ((FOLDER / f"{name}.{kind}").read_bytes() for kind in ("txt", "expected"))
-    found = run([explaining, DEPTH, "--file", f"{name}.txt"], text).output
+    found = run([path, DEPTH, "--explain", "--file", f"{name}.txt"], text).output
     if name not in WAITING:
         fault = difference(found, expected)
         if fault:
@@ -35,12 +35,12 @@ def hold(explaining: str, name: str) -> None:
 
 
 def add_words(reader: argparse.ArgumentParser) -> None:
-    reader.add_argument("--explaining")
+    reader.add_argument("--program")
 
 
 def check(tally: Tally, given: argparse.Namespace) -> None:
-    explaining = given.explaining or program("celtisdarts_explain")
+    path = given.program or program("celtisdarts")
     names = {it.stem for it in FOLDER.iterdir()}
     for name in sorted(names):
-        tally.hold(f"explanation {name}", partial(hold, explaining, name))
+        tally.hold(f"explanation {name}", partial(hold, path, name))
     tally.expect("all that wait are there", set(WAITING) <= names, f"{sorted(set(WAITING) - names)}")

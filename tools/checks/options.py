@@ -21,7 +21,7 @@ from . import common
 from .common import TOP
 
 SCRIPT = TOP / "celtisdarts"
-PROGRAMS = ("celtisdarts", "celtisdarts_explain")
+PROGRAMS = ("celtisdarts",)
 HELP_OFFERED = " (./celtisdarts --help lists the options)\n"
 
 # A text without a fault whose answers are not all the best ones: crate, section, supertraits and queries, in another order than answered.
@@ -176,7 +176,7 @@ def try_version(tally: Tally) -> None:
     first, *rest = ended.output.splitlines()
     tally.expect("--version", ended.status == 0 and ended.errors == "", ended)
     tally.expect("--version, the commit", bool(re.fullmatch(r"celtisdarts (\d{4}-\d\d-\d\d \(commit [0-9a-f]+\)|of an unknown commit)", first)), first)
-    version = dict(line.split(": ", 1) for line in rest[rest.index("celtisdarts") + 1:rest.index("celtisdarts_explain")] if line)
+    version = dict(line.split(": ", 1) for line in rest[rest.index("celtisdarts") + 1:] if line)
     note = TOP / (version["program"] + ".proved")
     if note.exists():  # (nothing is noted of a program that the toolchain alone built)
         noted = dict(line.split(" ", 1) for line in note.read_text().splitlines())
@@ -216,6 +216,9 @@ def try_mistakes(tally: Tally, room: Room) -> None:
     for words, message in mistakes.items():
         ended = room.run(words)
         tally.expect(f"the words '{words}'", ended.is_like(2, "", f"celtisdarts: {message}{HELP_OFFERED}"), ended)
+        if not re.search("--(build|with|proof)", words):
+            ended = run(words.split(), cwd=room.path, script=program_of("celtisdarts"))
+            tally.expect(f"the program's words '{words}'", ended.is_like(2, "", f"celtisdarts: {message} (--help lists the options)\n"), ended)
     ended = run(["8", ""], cwd=room.path)
     tally.expect("an empty word", ended.is_like(2, "", "celtisdarts: an empty argument names no file" + HELP_OFFERED), ended)
     ended = run(["--\x1b[31m\n"], cwd=room.path)
@@ -224,6 +227,28 @@ def try_mistakes(tally: Tally, room: Room) -> None:
         room.run("8 --jsno", stdin=source.fileno())
         left = os.read(source.fileno(), 100)
     tally.expect("a mistake, the text unread", left == b"crate a\n", left)
+
+
+def try_program(tally: Tally, room: Room, folder: Path) -> None:
+    """The program by itself, as a copy in a folder where nothing else is."""
+    folder.mkdir()
+    shutil.copy(program_of("celtisdarts"), folder)
+    (folder / "mixed.txt").write_text(MIXED)
+    script = folder / "celtisdarts"
+    ended = run(["mixed.txt"], cwd=folder, script=script)
+    tally.expect("the program on a file", ended.is_like(0, MIXED_ANSWER), ended)
+    for words in ("--explain mixed.txt", "--explain --json --color always mixed.txt", "7 mixed.txt --explain --file=a", "-- mixed.txt mixed.txt"):
+        ended = run(words.split(), cwd=folder, script=script)
+        tally.expect(f"the program's words '{words}'", ended == run(words.split(), cwd=folder) and ended.status == 0, ended)
+    for words in (["--check", "mixed.txt"], ["--explain", "--check", "mixed.txt"]):
+        tally.expect(f"the program's words {words}", run(words, cwd=folder, script=script).status == 4, "another status than 4")
+    for word in ("--help", "-h", "--version", "-V"):
+        ended = run([word], script=script)
+        is_good = ended.output.startswith("usage: celtisdarts [DEPTH] [OPTION...] [FILE...]\n" if "h" in word else "celtisdarts ")
+        tally.expect(f"the program's {word}", is_good and ended.status == 0 and ended.errors == "", ended)
+    done = subprocess.run([bytes(script), b"\xff"], stdin=subprocess.DEVNULL, stdout=subprocess.PIPE, stderr=subprocess.PIPE, check=False)
+    message = b"celtisdarts: an argument is not UTF-8 (a file with such a name can be standard input)\n"
+    tally.expect("a word that is not UTF-8", (done.returncode, done.stdout, done.stderr) == (2, b"", message), done)
 
 
 def try_refused_files(tally: Tally, room: Room) -> None:
@@ -238,7 +263,7 @@ def try_refused_files(tally: Tally, room: Room) -> None:
         "--check nosuch": "nosuch: no such file",
         "--check /proc/self/mem": "/proc/self/mem: could not be read or kept",
         "--with /proc/self/mem good.txt": "/proc/self/mem: could not be read or kept",
-        "/proc/self/mem": "/proc/self/mem: no whole answer: the text could not be read, or memory or a table ran out",
+        "/proc/self/mem": "/proc/self/mem: could not be read",
     }
     for words, reason in reasons.items():
         ended = room.run(words)
@@ -248,7 +273,7 @@ def try_refused_files(tally: Tally, room: Room) -> None:
     for words in ("zero", "--check zero", "-"):
         ended = room.run(words, (room.path / "zero").read_text())
         name = "standard input" if words == "-" else "zero"
-        message = f"celtisdarts: {name}: {'--explain has the reason' if words == '-' else 'is no text: it has a byte 0'}\n"
+        message = f"celtisdarts: {name}: is no text: it has a byte 0\n"
         tally.expect(f"bytes that are no text, '{words}'", ended.is_like(1, "line 2: fault 2\n", message), ended)
     with open(room.path / "zero", "rb") as source:
         ended = room.run("8", stdin=source.fileno())
@@ -644,6 +669,7 @@ def check(common_tally: common.Tally, _: argparse.Namespace) -> None:
         try_help(tally)
         try_version(tally)
         try_mistakes(tally, room)
+        try_program(tally, room, Path(second) / "alone")
         try_refused_files(tally, room)
         try_depth(tally, room)
         try_positions(tally, room)

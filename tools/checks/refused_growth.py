@@ -93,9 +93,9 @@ def fault_of_explained(turn: Turn, expected: bytes) -> Optional[str]:
 
 
 def explained_on(tally: Tally, refusing: Refusing, name: str) -> None:
-    """The program that explains, on an example."""
+    """With --explain, on an example."""
     it, last = example(name), 0
-    for turn in refusing.turns([program("celtisdarts_explain"), "8"], it.text, 400, 17):
+    for turn in refusing.turns([program("celtisdarts"), "--explain", "8"], it.text, 400, 17):
         tally.report(f"{name}, explained, request {turn.number} refused", fault_of_explained(turn, it.expected()))
         last = turn.number
     print(f"{name}, explained: requests refused in turn, up to the {last}th")

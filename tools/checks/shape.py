@@ -38,7 +38,7 @@ NO_LEMMA = re.compile(r"(?:pub )?(?:abbrev|unfoldable|record|data|use|infixl|inf
 GOES_ON = re.compile(r"[)\]}]|unfolding ")
 # Words of crates.txt that no file names. A crate that visits or folds terms lists `type_terms`, because the toolchain reads its declarations.
 # `indexmap` can go when solver_graph, and so each crate above it, has to be proved again for another reason.
-WAITING = {"solver_graph": ["indexmap"], **dict.fromkeys(("explain_sessions", "explain_texts", "celtisdarts_explain"), ["type_terms"])}
+WAITING = {"solver_graph": ["indexmap"], **dict.fromkeys(("explain_sessions", "explain_texts", "celtisdarts"), ["type_terms"])}
 
 
 def folder_files(folder: str, crate: str = "*") -> list[Path]:

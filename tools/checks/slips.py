@@ -66,13 +66,13 @@ class Fault(NamedTuple):
 
 class Checks:
     def __init__(self) -> None:
-        self.path = program("celtisdarts_explain")
+        self.path = program("celtisdarts")
         page = (TOP / "docs/FORMAT.md").read_text(encoding="utf-8")
         self.headings = {it.lstrip("#").strip() for it in page.splitlines() if it.startswith("#")}
         self.seen: set[int] = set()
 
     def explain(self, text: bytes) -> Any:
-        ended = run([self.path, "8", "--json"], text)
+        ended = run([self.path, "8", "--explain", "--json"], text)
         if ended.status not in (0, 1):
             raise Wrong(f"status {ended.status}")
         return read_lines(ended.output)

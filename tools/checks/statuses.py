@@ -123,7 +123,7 @@ def try_short_output(cases: Cases) -> None:
 
 
 def try_explained(cases: Cases) -> None:
-    """What holds of the program that explains, and of the script with `--explain` as its first word."""
+    """What holds of the program and of the script with `--explain` as the first word."""
 
     def answer(name: str, status: int, it: Example, words: str, text: Optional[bytes] = None) -> None:
         ended = cases.run(*words.split(), text=it.text if text is None else text)
@@ -174,7 +174,7 @@ class Script(Cases):
         """From here on a call of rt is one of the replacement, which reads these words."""
         (self.room / "bin").mkdir()
         shutil.copy2(Path(__file__).with_name("rt_stand_in"), self.room / "bin" / "rt")
-        names = {"PROGRAM": program("celtisdarts"), "EXPLAINER": program("celtisdarts_explain"), "CALLS": str(self.calls)}
+        names = {"PROGRAM": program("celtisdarts"), "CALLS": str(self.calls)}
         words = {"VERSION": "a toolchain", "FAILS": "", "EDITS": "", "WAITS": "", "PATH": f"{self.room}/bin:{os.environ['PATH']}"}
         self.env = {**os.environ, **names, **words}
         self.calls.touch()
@@ -189,7 +189,7 @@ class Script(Cases):
         shutil.copy(program("celtisdarts"), self.built)
 
     def drop_programs(self) -> None:
-        for name in ("celtisdarts", "celtisdarts_explain", "celtisdarts_c"):
+        for name in ("celtisdarts", "celtisdarts_c"):
             shutil.rmtree(self.at / "crates" / name / "out", ignore_errors=True)
 
     def called(self) -> list[str]:
@@ -287,8 +287,7 @@ def try_first_build(script: Script, env: dict[str, str]) -> None:
     script.gave("all crates proved", 0)
     calls = script.called()
     script.reported("a call for each crate that it counts", f"celtisdarts: crate 1 of {len(calls)}: type_terms; minutes so far: 0$")
-    script.expect("a program as the last crate", calls[-1:] == ["celtisdarts_explain run"])
-    script.expect("and one before it", "celtisdarts run" in calls)
+    script.expect("a program as the last crate", calls[-1:] == ["celtisdarts run"])
     script.is_used("the program stored")
     script.run("--help")
     script.printed("help that says so", "built here")
@@ -370,16 +369,14 @@ def try_made(script: Script, release: Release, env: dict[str, str]) -> None:
     script.drop_programs()
     release.checked("none", "0 passed, 0 failed")
     release.make()
-    for name, path, made in (("made, with all that it takes", release.path, env["PROGRAM"]),
-                             ("made of the program that says why, too", Path(f"{release.path}_explain"), env["EXPLAINER"])):
-        script.expect(name, path.is_file() and path.read_bytes() == Path(made).read_bytes())
-    release.checked("of the programs that were built", "2 passed, 0 failed")
+    script.expect("made, with all that it takes", release.path.is_file() and release.path.read_bytes() == Path(env["PROGRAM"]).read_bytes())
+    release.checked("of the program that was built", "1 passed, 0 failed")
     env["VERSION"] = "another toolchain"
     release.checked("by another toolchain", "0 passed, 0 failed")
     env["VERSION"] = "a toolchain"
     script.drop_programs()
     script.is_used("with nothing built")
-    release.checked("with nothing built, not compared", "0 passed, 2 failed")
+    release.checked("with nothing built, not compared", "0 passed, 1 failed")
     script.run("--help")
     script.printed("help that says so", "release/celtisdarts")
 
@@ -389,7 +386,7 @@ def try_release_answers(script: Script) -> None:
     try_files(script, "files, with a release", 0)
     script.what = "a release"
     script.run("--explain", "8", text=OVERLAPS[0].text)
-    script.gave("--explain, with a release", 0, run([program("celtisdarts_explain"), "8"], OVERLAPS[0].text).output)
+    script.gave("--explain, with a release", 0, run([program("celtisdarts"), "--explain", "8"], OVERLAPS[0].text).output)
     script.expect("--explain, with a release, which compiles nothing", not script.called())
 
 
@@ -410,11 +407,11 @@ def try_forged(script: Script, release: Release, env: dict[str, str]) -> None:
     forged.unlink(missing_ok=True)
     script.is_used("of other bytes, with the built program")
     script.expect("of other bytes, which was not run", not forged.exists())
-    release.checked("of other bytes, compared", "1 passed, 1 failed")
+    release.checked("of other bytes, compared", "0 passed, 1 failed")
     script.drop_programs()
     release.path.write_bytes(release.path.read_bytes() + b"\n")
     script.is_not_used("of bytes that are not noted")
-    release.checked("of bytes that are not noted, compared", "0 passed, 2 failed")
+    release.checked("of bytes that are not noted, compared", "0 passed, 1 failed")
     release.forge(b"#!/nothing/that/loads/it\n")
     script.is_not_used("for another machine")
     release.forge(Path(env["PROGRAM"]).read_bytes())
@@ -560,7 +557,7 @@ def try_unbuilt(script: Script) -> None:
     try_explained(explaining)
     file = f"{OVERLAPS[0].folder}/input.txt"
     explaining.run("8", file)
-    explaining.gave("what the program writes of the file", 0, run([program("celtisdarts_explain"), "8", file]).output)
+    explaining.gave("what the program writes of the file", 0, run([program("celtisdarts"), "--explain", "8", file]).output)
 
 
 def try_script(script: Script, is_compiled: bool) -> None:
@@ -584,12 +581,10 @@ def add_words(reader: argparse.ArgumentParser) -> None:
 def check(tally: Tally, given: argparse.Namespace) -> None:
     answering = Cases(tally, "the program", program("celtisdarts"))
     try_statuses(answering)
-    answering.refuses("", "8 8", "eight", "+8", "--help")
-    answering.run("8 ", text=TEXT.text)
-    answering.gave("a space after the depth", 2)
+    answering.refuses("--json", "8 -x", "--color never", "- -")
     try_short_output(answering)
-    explaining = Cases(tally, "the program that explains", program("celtisdarts_explain"))
+    explaining = Cases(tally, "the program that explains", program("celtisdarts"), "--explain")
     try_explained(explaining)
-    explaining.refuses("", "--json", "8 a b", "a 8", "--check --json")
+    explaining.refuses("--json 8 a b", "--check --file a a b")
     with tempfile.TemporaryDirectory() as room:
         try_script(Script(tally, Path(room)), not given.without_rt)

@@ -1,8 +1,8 @@
 # Answers the texts of a call. Sourced by ./celtisdarts, which reads the arguments: `depth`, `explains`, `json`, `color`, `checks` and
 # `title` (of --file), and each file as `text:FILE`, or `with:FILE` for --with.
 #
-# The program writes to standard output itself. Texts and answers are stored in the folder `room` only if the program is compiled for
-# this call, or if the answer is read (--check, --with, --proof).
+# The program answers by itself, with its own messages, unless it is compiled for this call, or its answer is read (--check, --with,
+# --proof). Then texts and answers are stored in the folder `room`.
 # shellcheck shell=sh disable=SC2154
 
 # How many bytes of a text are stored: one more than it may have. The program reads no more either.
@@ -153,7 +153,7 @@ keep_answer() {
     fi
     [ -n "$program" ] || ! take_tried || return 0
     make_program
-    (trap '' XFSZ && ulimit -f "$answer_limit" && exec "$program" "$@") < "$room/texts/$number" > "$room/answer" &
+    (trap '' XFSZ && ulimit -f "$answer_limit" && exec "$program" "$@") < "$room/texts/$number" > "$room/answer" 2> /dev/null &
     await
 }
 
@@ -217,30 +217,18 @@ write_kept() {
     [ -z "$checks" ] || [ "$status" -ne 0 ] || check_answer
 }
 
-# write_answer WORD...: runs the program on the file. It writes to standard output itself
-write_answer() {
-    if [ "$file" = - ]; then
-        { "$program" "$@" <&3 3<&- & await; } 3<&0
-    else
-        { "$program" "$@" <&3 3<&- & await; } 3< "$file"
-    fi
-}
-
-# Sets `again` to a file from which this text can be read once more. Fails if there is none.
-find_again() {
-    again=$file
-    [ -z "$room" ] || again=$room/texts/$number
-    [ "$again" != - ] || again=/dev/stdin
-    [ -f "$again" ]
-}
-
-# answers_alone WORD...: runs the program without its output, for at most two seconds of a processor. The status is 0 or 1 if it has a
-# whole answer, 3 if it has none, and another one if that is unknown.
-answers_alone() {
-    find_again || return 4
-    # (A shell without this limit fails. The subshell does not `exec` the program, so that it can hide the message about its end.)
-    # shellcheck disable=SC3045
-    (ulimit -t 2 && "$program" "$@" < "$again" > /dev/null; exit "$?") 2> /dev/null
+# run_program_alone WORD...: answers the texts by the program itself, in the place of this script
+run_program_alone() {
+    for word do
+        shift
+        set -- "$@" "${word#text:}"
+    done
+    set -- -- "$@"
+    [ -z "$title" ] || set -- --file "$title" "$@"
+    [ -z "$color" ] || set -- --color "$color" "$@"
+    [ -z "$json" ] || set -- "$json" "$@"
+    [ -z "$explains" ] || set -- --explain "$@"
+    exec "$program" "$depth" "$@"
 }
 
 # Reports why a stored answer is not whole.
@@ -252,33 +240,18 @@ say_why_kept() {
     fi
 }
 
-# say_why WORD...: reports why the program, which ended with this status, has no whole answer, as far as that is known
+# Reports why the program, which ended with this status, has no whole answer.
 say_why() {
-    case $status in
-        2) say "$label: no answer: its name is no UTF-8 (--file NAME gives it another)" ;;
-        3) ;;
-        *) say "$label: no whole answer: the program ended with status $status" ;;
-    esac
-    [ "$status" -eq 3 ] || return
-    if [ -n "$room" ]; then
+    if [ "$status" -eq 3 ]; then
         say_why_kept
-        return
+    else
+        say "$label: no whole answer: the program ended with status $status"
     fi
-    if ! (: 3>&1) 2> /dev/null; then
-        say "$label: no whole answer: standard output is closed"
-        return
-    fi
-    answers_alone "$@"
-    case $? in
-        0 | 1) [ -p /dev/stdout ] || say "$label: no whole answer: standard output could not be written" ;;
-        3) say "$label: no whole answer: the text could not be read, or memory or a table ran out" ;;
-        *) say "$label: no whole answer: reading or writing failed, or memory or a table ran out" ;;
-    esac
 }
 
 # Reports a text with a byte 0. For another fault it names --explain, unless that or --check was given.
 say_of_fault() {
-    if find_again && [ "$(tr -dc '\000' < "$again" | head -c 1 | wc -c)" -ne 0 ]; then
+    if [ "$(tr -dc '\000' < "$room/texts/$number" | head -c 1 | wc -c)" -ne 0 ]; then
         say "$label: is no text: it has a byte 0"
     elif [ -z "$explains$checks" ]; then
         say "$label: --explain has the reason"
@@ -289,21 +262,21 @@ say_of_fault() {
 answer_text() {
     status=3
     [ "$texts" -eq 1 ] || printf '== %s\n' "$(shown "$file")" 2> /dev/null || end_output
-    [ -z "$room" ] || [ -n "$reason" ] || [ -f "$room/texts/$number" ] || reason="could not be read or kept"
+    [ -n "$reason" ] || [ -f "$room/texts/$number" ] || reason="could not be read or kept"
     if [ -n "$reason" ]; then
         say "$label: $reason"
         return
     fi
     set -- "$depth"
     if [ -n "$explains" ]; then
-        set -- "$depth" ${json:+"$json"} --color "$color" --file "$(name_of "${title:-$file}")"
+        set -- "$depth" --explain ${json:+"$json"} --color "$color" --file "$(name_of "${title:-$file}")"
     fi
-    if [ -n "$room" ]; then write_kept "$@"; else write_answer "$@"; fi
+    write_kept "$@"
     case $status in
         0 | 4) ;;
         1) say_of_fault ;;
         *)
-            say_why "$@"
+            say_why
             status=3
             ;;
     esac
@@ -311,13 +284,11 @@ answer_text() {
 
 # answer_texts WORD...: answers each `text:FILE`, and exits with the greatest status
 answer_texts() {
-    if [ -n "$explains" ]; then
-        of_program celtisdarts_explain
-        choose_colors
-    fi
     find_program || need_toolchain "there is no proved program of these sources"
+    [ -z "$program" ] || [ -n "$checks$fronts$proof" ] || run_program_alone "$@"
+    [ -z "$explains" ] || choose_colors
     [ "$inputs" -eq 0 ] || [ ! -t 0 ] || say "reading the text from the terminal, until Ctrl-D on a line by itself"
-    if [ -z "$program" ] || [ -n "$checks" ] || [ -n "$fronts" ] || [ -n "$proof" ]; then keep_texts "$@"; fi
+    keep_texts "$@"
     [ -n "$program" ] || [ -n "$explains" ] || [ -z "$(ls "$room/texts")" ] || try_unproved "$room/texts" "$depth"
     worst=0
     number=0

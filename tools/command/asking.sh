@@ -82,9 +82,9 @@ answer_line() {
 # run_program FILE: runs the program on the file and stores its output in `answer`. Lines are numbered in their own files.
 run_program() {
     if [ -n "$explains" ]; then
-        "$program" "$depth" ${json:+"$json"} --color "$color" --file "$title" < "$1" > "$room/answer" &
+        "$program" "$depth" --explain ${json:+"$json"} --color "$color" --file "$title" < "$1" > "$room/answer" 2> /dev/null &
     else
-        "$program" "$depth" < "$1" > "$room/answer" &
+        "$program" "$depth" < "$1" > "$room/answer" 2> /dev/null &
     fi
     await
     [ -s "$room/parts" ] || return
@@ -139,10 +139,7 @@ next_line() {
 
 # answer_lines WORD...: answers the lines of standard input, after the text `named`, for the crate `asker` if that is set
 answer_lines() {
-    if [ -n "$explains" ]; then
-        of_program celtisdarts_explain
-        choose_colors
-    fi
+    [ -z "$explains" ] || choose_colors
     find_program || {
         say "\`--ask\` needs a proved program, and there is none of these sources: ./celtisdarts --build makes it"
         exit 3

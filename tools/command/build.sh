@@ -41,7 +41,7 @@ count_jobs() {
 prove_crate() {
     count_jobs
     case $crate in
-        celtisdarts | celtisdarts_explain) set -- run --jobs "$jobs" -- 8 ;;
+        celtisdarts) set -- run --jobs "$jobs" -- 8 ;;
         *) set -- lib --jobs "$jobs" ;;
     esac
     (cd "$here/crates/$crate" && exec rt "$@") < /dev/null > "$room/said" 2>&1 &

@@ -1,78 +1,105 @@
-//! Checks the crates of the text on standard input and answers its queries on standard output.
+//! Answers texts, of files or of standard input, and explains the answers. `--help` lists its arguments.
 //!
-//! Its one argument is the depth limit, from 1 to 255. The exit status is 0 if the answers were written, 1 if the text has a fault, 2 if
-//! the arguments are wrong, and 3 if reading or writing failed, memory was refused or a table was full.
+//! The exit statuses:
+//!
+//! - 0: the answers were written.
+//! - 1: the text has a fault.
+//! - 2: the arguments are wrong.
+//! - 3: reading, writing or memory failed, or a table was full, before all answers were written.
+//! - 4: with `--check`, some answer is not the best of its kind.
+//!
+//! Of several texts it is the greatest.
 #![tactic(auto)]
 
-ghost use Rattle.std.specs.Prelude.{◌≡◌};
-ghost use Rattle.celtisdarts.specs.ExitStatus.{exit_status};
+mod answering;
+mod breaking;
+mod checks;
+mod conflicts;
+mod ending;
+mod explaining;
+mod lines;
+mod overlaps;
+mod places;
+mod printed;
+mod proofs;
+mod questions;
+mod reasons;
+mod saying;
+mod spending;
+mod supertraits;
 
-use coherence::{Limits, RunFault, Status, parse_depth, run};
+use crate::answering::answer_texts;
+use crate::ending::{DONE, Ending, Failure, exit_status};
+use crate::saying::{say, say_unwritten};
+use coherence::RunFault;
+use command_line::{Command, HELP, Output, Refusal, read_words};
+use std::alloc::{AllocError, Global};
+use std::io::{IsTerminal, Write};
 use std::process::ExitCode;
-use std::rt::Env;
 use std::{env, io};
 
-/// The maximum number of handles of each kind in a session.
-const HANDLES: u32 = 16_777_216;
+/// What `--version` prints. The bindings have the same number.
+const VERSION: &str = "celtisdarts 0.1.0\n";
 
-/// Why output is missing or incomplete.
-#[derive(Clone, Copy)]
-enum Failure {
-    /// There is not exactly one argument, or it is no depth limit.
-    Words,
-    /// The run failed, or memory was refused before it.
-    Run(RunFault),
+/// The arguments that are left, in a vector.
+fn keep_words(alloc: Global, args: env::Args) -> Result<Vec<String>, AllocError> {
+    let mut words = Vec::new(alloc);
+    for word in args {
+        words.push(word)?;
+    }
+    Ok(words)
 }
 
-/// The program's one argument. It is read before any input.
-fn read_depth<R: Env + Alloc>(rt: &R) -> Result<u32, Failure> {
+/// Says that memory was refused before any text was read.
+fn refuse_memory(rt: &HostRuntime) -> Failure {
+    say(rt, "out of memory");
+    Failure::Run(RunFault::Memory)
+}
+
+/// The arguments after the program's name.
+fn arguments(rt: &HostRuntime) -> Result<Vec<String>, Failure> {
     match env::args(rt) {
-        Err(e) => {
-            if e.kind() == io::ErrorKind::OutOfMemory {
-                Err(Failure::Run(RunFault::Memory))
-            } else {
-                Err(Failure::Words)
+        Err(error) => {
+            if error.kind() == io::ErrorKind::OutOfMemory {
+                return Err(refuse_memory(rt));
             }
+            say(
+                rt,
+                "an argument is not UTF-8 (a file with such a name can be standard input)",
+            );
+            Err(Failure::Words)
         }
         Ok(mut args) => {
             let _program = args.next();
-            let Some(word) = args.next() else {
-                return Err(Failure::Words);
-            };
-            if args.next().is_some() {
-                return Err(Failure::Words);
-            }
-            match parse_depth(word.as_bytes()) {
-                None => Err(Failure::Words),
-                Some(depth) => Ok(depth),
-            }
+            keep_words(rt.alloc(), args).map_err(|_| refuse_memory(rt))
         }
     }
 }
 
-/// Runs from standard input to standard output.
-fn answer(rt: &HostRuntime) -> Result<Status, Failure> {
-    let depth = read_depth(rt)?;
-    let Some(limits) = Limits::new(depth, HANDLES) else {
-        return Err(Failure::Words);
-    };
-    let mut reader = rt.stdin();
-    let mut writer = rt.stdout();
-    match run(rt.alloc(), &mut reader, &mut writer, limits) {
-        Ok(status) => Ok(status),
-        Err(fault) => Err(Failure::Run(fault)),
+/// Prints a text.
+fn print(rt: &HostRuntime, text: &str) -> Result<Ending, Failure> {
+    let mut output = Output::new(rt.stdout());
+    match output.write_all(text.as_bytes()) {
+        Ok(()) => Ok(DONE),
+        Err(_) => {
+            say_unwritten(rt, output.failure);
+            Err(Failure::Run(RunFault::Write))
+        }
     }
 }
 
-/// The exit status of an ending of the program.
-fn exit_status(ending: Result<Status, Failure>) -> u8
-    ensures { result ≡ exit_status ending }
-{
-    match ending {
-        Ok(Status::Done) => 0,
-        Ok(Status::TextFault) => 1,
-        Err(Failure::Words) => 2,
-        Err(Failure::Run(_)) => 3,
+/// Does what the arguments ask for.
+fn answer(rt: &HostRuntime) -> Result<Ending, Failure> {
+    let words = arguments(rt)?;
+    match read_words(rt.alloc(), &words, rt.stdin().is_terminal()) {
+        Ok(Command::Help) => print(rt, HELP),
+        Ok(Command::Version) => print(rt, VERSION),
+        Ok(Command::Answer(request)) => answer_texts(rt, &request),
+        Err(Refusal::Memory) => Err(refuse_memory(rt)),
+        Err(Refusal::Mistake(mistake)) => {
+            let _said = eprintln!(rt; "celtisdarts: {mistake} (--help lists the options)");
+            Err(Failure::Words)
+        }
     }
 }
 

@@ -84,7 +84,7 @@ def printed(text: str, program: Optional[str], depth: int) -> str:
 
 def explaining(program: Optional[str] = None) -> Optional[str]:
     """The program that explains: the one that is named, else the proved one that is here, if there is one."""
-    return program or proved_program("celtisdarts_explain")
+    return program or proved_program()
 
 
 def explain(text: str, program: Optional[str] = None, depth: int = DEPTH) -> list[dict[str, Any]]:
@@ -92,7 +92,7 @@ def explain(text: str, program: Optional[str] = None, depth: int = DEPTH) -> lis
     found = explaining(program)
     if found is None:
         return []
-    done = subprocess.run([found, str(depth), "--json"], input=text.encode("ascii"), stdout=subprocess.PIPE, stderr=subprocess.PIPE)
+    done = subprocess.run([found, str(depth), "--explain", "--json"], input=text.encode("ascii"), stdout=subprocess.PIPE, stderr=subprocess.PIPE)
     if done.returncode not in (0, 4):
         return []
     return [json.loads(line) for line in done.stdout.decode("ascii", "replace").splitlines()]

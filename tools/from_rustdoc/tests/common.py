@@ -14,7 +14,7 @@ HERE = os.path.dirname(os.path.abspath(__file__))
 PROGRAM = os.environ.get("FROM_RUSTDOC_PROGRAM")
 # The program that explains, where it is not to be the proved one of these sources.
 EXPLAINS = os.environ.get("FROM_RUSTDOC_EXPLAINS")
-WHY_NO_EXPLANATION = "" if EXPLAINS or proved_program("celtisdarts_explain") else "there is no proved program that explains"
+WHY_NO_EXPLANATION = "" if EXPLAINS or proved_program() else "there is no proved program that explains"
 WHY_NO_PROGRAM = "" if PROGRAM or proved_program() else "there is no proved program of these sources"
 sys.setrecursionlimit(20000)
 

@@ -63,20 +63,20 @@ class Plain(unittest.TestCase):
         self.assertEqual(plain("the upper text says unproved, the lower one unproved"), "a part that was left out may count")
         self.assertEqual(plain("a.rs:1: impl T for S: header: an unsafe fn: a fresh parameter stands for it"), "a.rs:1: impl T for S: an unsafe fn")
 
-    @unittest.skipUnless(proved_program("celtisdarts_explain"), "there is no proved program that explains")
+    @unittest.skipUnless(proved_program(), "there is no proved program that explains")
     def test_answers_are_told_in_plain_words(self) -> None:
         found = world("ab")
         for written, lines in SHOWN.items():
             self.assertEqual(self.lines(found, written), lines)
         self.assertEqual(self.lines(found, "ab::Sb: ab::Ta", is_verbose=True), ["ab::Sb: ab::Ta    yes   (by law)"])
 
-    @unittest.skipUnless(proved_program("celtisdarts_explain"), "there is no proved program that explains")
+    @unittest.skipUnless(proved_program(), "there is no proved program that explains")
     def test_a_field_that_fails_stands_in_the_answer(self) -> None:
         found = world("reasons")
         self.assertEqual(self.lines(found, "reasons::Cycle: Send")[0].split("   (")[1].split(";")[0], "its field `count` is `Rc<u8>`")
         self.assertEqual(self.lines(found, "<T> reasons::Outer<T>: Copy")[0], "<T> reasons::Outer<T>: Copy    unproved   (there is no proof for every `T`)")
 
-    @unittest.skipUnless(proved_program("celtisdarts_explain"), "there is no proved program that explains")
+    @unittest.skipUnless(proved_program(), "there is no proved program that explains")
     def test_what_is_to_be_added_can_be_asked(self) -> None:
         found = world("ab")
         for written, help_line in WITH_REASONS.items():
