@@ -77,7 +77,7 @@ pub(crate) fn lines_above(
     fault: TextFault,
 ) -> Result<Option<Workspace>, AllocError> {
     match fault.kind {
-        FaultKind::OtherByte | FaultKind::Syntax | FaultKind::Misplaced => return Ok(None),
+        FaultKind::OtherByte | FaultKind::Syntax => return Ok(None),
         FaultKind::Limit if text.len() > TEXT_LIMIT => return Ok(None),
         _ => {}
     }

@@ -10,7 +10,7 @@ use messages::{
     Piece, Telling, name_in, name_of, plain, whole_line, with_one, with_three, with_two,
 };
 use std::alloc::{AllocError, Global};
-use text_lines::{LineRead, Statement};
+use text_lines::LineRead;
 use text_names::FaultKind;
 use text_parser::{LineForm, TEXT_LIMIT, TextFault, line_form};
 use text_tables::{Known, Workspace};
@@ -117,34 +117,22 @@ fn tell_unwritten(number: u32, line: &LineWords<'_>, telling: &mut Telling) -> b
     true
 }
 
-/// Whether a line is in a section: the last line above it that begins a crate or a section is a `later` line.
-fn is_in_section(alloc: Global, file: &SourceFile<'_>, line: u32) -> Result<bool, AllocError> {
-    let mut in_section = false;
-    for at in 1..line {
-        if let Some(read) = reading(alloc, file.line(at))? {
-            match &read.statement {
-                Statement::Crate { .. } => in_section = false,
-                Statement::Later { .. } => in_section = true,
-                _ => {}
-            }
-        }
-    }
-    Ok(in_section)
-}
-
 /// Tells of an item that no crate may have there.
-fn tell_misplaced(file: &SourceFile<'_>, line: u32, telling: &mut Telling) -> bool {
-    let in_section = is_in_section(telling.alloc(), file, line);
-    let (label, help) = if telling.granted(in_section).unwrap_or(false) {
-        (
+fn tell_misplaced(
+    file: &SourceFile<'_>,
+    line: u32,
+    above: Option<&Workspace>,
+    telling: &mut Telling,
+) -> bool {
+    let (label, help) = match above {
+        Some(above) if above.tables().is_in_section() => (
             "a later version adds impls alone here",
             "declare it in the crate itself, above the section",
-        )
-    } else {
-        (
+        ),
+        _ => (
             "no `crate` line stands above",
             "begin a crate above it: `crate NAME`",
-        )
+        ),
     };
     telling.mark(on_line(line, whole_line(file.line(line))), plain(label));
     telling.help(plain(help));
@@ -363,24 +351,16 @@ fn tell_unknown(line: Faulty<'_>, telling: &mut Telling) -> bool {
 }
 
 /// The crate to which a line belongs: that of the last section or crate that begins above it. For a query the crate that it names.
-pub(crate) fn seeing_crate(alloc: Global, line: Faulty<'_>) -> Result<Option<CrateId>, AllocError> {
-    let mut found = None;
-    for before in 0..line.number {
-        let at = before.saturating_add(1);
-        if let Some(read) = reading(alloc, line.file.line(at))? {
-            let named = match &read.statement {
-                Statement::Crate { name, .. } => name,
-                Statement::Later { crate_name } => crate_name,
-                Statement::Prove { crate_name, .. } if at == line.number => crate_name,
-                Statement::Refute { crate_name, .. } if at == line.number => crate_name,
-                _ => continue,
-            };
-            if let Some(Known::Crate(id)) = line.workspace.known(named) {
-                found = Some(id);
-            }
+fn seeing_crate(line: Faulty<'_>) -> CrateId {
+    let above = line.workspace.tables();
+    for word in line.words {
+        if word.used_as == "@crate"
+            && let Some(asking) = above.crate_named(word.text)
+        {
+            return asking;
         }
     }
-    Ok(found)
+    above.impl_owner()
 }
 
 /// Adds which crate declares a struct or trait that another crate does not see.
@@ -405,10 +385,7 @@ fn tell_owner(
 
 /// Marks a struct or trait that the crate of a line does not see. Returns whether there is one.
 fn tell_hidden(line: Faulty<'_>, telling: &mut Telling) -> bool {
-    let seeing = seeing_crate(telling.alloc(), line);
-    let Some(Some(seeing)) = telling.granted(seeing) else {
-        return false;
-    };
+    let seeing = seeing_crate(line);
     if seeing.index as usize >= line.workspace.crates().len() {
         return false;
     }
@@ -520,14 +497,11 @@ fn tell_word(line: Faulty<'_>, kind: FaultKind, telling: &mut Telling) -> bool {
 
 /// Tells of the type for which an auto trait is implemented, and whether it is found.
 fn tell_foreign_auto(line: Faulty<'_>, telling: &mut Telling) -> bool {
-    let alloc = telling.alloc();
-    let seeing = seeing_crate(alloc, line);
-    let parts = parts_of_impl(alloc, line.file.line(line.number));
-    let (Some(Some(seeing)), Some(Some(parts))) = (telling.granted(seeing), telling.granted(parts))
-    else {
+    let parts = parts_of_impl(telling.alloc(), line.file.line(line.number));
+    let Some(Some(parts)) = telling.granted(parts) else {
         return false;
     };
-    let own = Piece::Name(name_in(line.workspace, seeing));
+    let own = Piece::Name(name_in(line.workspace, seeing_crate(line)));
     telling.mark(
         on_line(line.number, parts.subject),
         with_one("no struct of crate `{}`", own),
@@ -591,7 +565,7 @@ pub(crate) fn tell_offence(
 ) {
     let is_found = match fault.kind {
         FaultKind::OtherByte => tell_other_byte(fault.line, file.line(fault.line), telling),
-        FaultKind::Misplaced => tell_misplaced(file, fault.line, telling),
+        FaultKind::Misplaced => tell_misplaced(file, fault.line, above, telling),
         FaultKind::Limit if text.len() > TEXT_LIMIT => tell_long_text(file, fault.line, telling),
         _ => tell_written(file, fault, above, telling),
     };

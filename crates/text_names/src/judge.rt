@@ -65,19 +65,13 @@ fn takes_names<N: LineNames>(
 ) -> Result<bool, AllocError>
     ensures { IfOk result (λ b. b ≡ takes_said (N.sight names.now).before (seen_items (N.sight names.now)) (statement_of statement.now)) }
 {
-    if declares_taken(names, statement) {
-        return Ok(true);
-    }
-    is_taken_param(names, alloc, statement.params())
+    Ok(declares_taken(names, statement) || is_taken_param(names, alloc, statement.params())?)
 }
 
 fn is_trait(statement: &Statement<'_>) -> bool
     ensures { result ≡ is_trait_said (statement_of statement.now) }
 {
-    match statement {
-        Statement::Trait { .. } => true,
-        _ => false,
-    }
+    matches!(statement, Statement::Trait { .. })
 }
 
 /// Whether there is a variable outside the bound of a query, or one of two kinds.
@@ -85,10 +79,7 @@ fn has_stray_variable(alloc: Global, found: &LineFound<'_>) -> Result<bool, Allo
     ensures { IfOk result (λ b. b ≡ (is_any (map variable_in found.now.others.variables.items)
         || have_two_kinds (map variable_in found.now.asked.variables.items))) }
 {
-    if !found.others.variables.is_empty() {
-        return Ok(true);
-    }
-    are_of_two_kinds(alloc, &found.asked.variables)
+    Ok(!found.others.variables.is_empty() || are_of_two_kinds(alloc, &found.asked.variables)?)
 }
 
 fn tests_of<N: LineNames>(

@@ -34,13 +34,8 @@ const LIST_LIMIT: usize = 12;
 
 /// An argument that cannot be of the kind of its position.
 const MISFIT: Findings = Findings {
-    takes_names: false,
-    uses_unknown: false,
-    uses_hidden: false,
     uses_other_sort: true,
-    uses_own: false,
-    has_bad_dyn: false,
-    passes_limit: false,
+    ..Findings::NONE
 };
 
 fn limit(is_passed: bool) -> Findings
@@ -55,13 +50,8 @@ fn limit(is_passed: bool) -> Findings
     } }
 {
     Findings {
-        takes_names: false,
-        uses_unknown: false,
-        uses_hidden: false,
-        uses_other_sort: false,
-        uses_own: false,
-        has_bad_dyn: false,
         passes_limit: is_passed,
+        ..Findings::NONE
     }
 }
 
@@ -231,13 +221,7 @@ fn is_unknown<N: Names>(names: &N, name: &[u8], meaning: Option<Known<'_>>) -> b
     requires { option_map known_of meaning ≡ known (seen_items (N.sight names.now)) name.now }
     ensures { result ≡ not (is_known_name (N.sight names.now).before (N.sight names.now).line name.now) }
 {
-    if is_param(names, name) {
-        return false;
-    }
-    match meaning {
-        Some(_) => false,
-        None => true,
-    }
+    !is_param(names, name) && meaning.is_none()
 }
 
 /// Whether the line's crate does not see what a name stands for, and the name is no parameter.
@@ -246,10 +230,7 @@ fn is_hidden_known<N: Names>(names: &N, name: &[u8], meaning: Option<Known<'_>>)
     ensures { result ≡ option_map_or (λ c. is_hidden_name (N.sight names.now).before (N.sight names.now).line c name.now)
         (looking_crate (N.sight names.now).before (N.sight names.now).line) false }
 {
-    if is_param(names, name) {
-        return false;
-    }
-    is_hidden(names, meaning)
+    !is_param(names, name) && is_hidden(names, meaning)
 }
 
 /// Whether a parameter fits a position of this kind with this many arguments.
@@ -323,10 +304,7 @@ fn is_other_trait<N: Names>(
     requires { option_map known_of meaning ≡ known (seen_items (N.sight names.now)) name.now }
     ensures { result ≡ is_other_sort (N.sight names.now).before (N.sight names.now).line (trait_use name.now count) }
 {
-    if is_param(names, name) {
-        return true;
-    }
-    !is_trait_of(count, meaning)
+    is_param(names, name) || !is_trait_of(count, meaning)
 }
 
 /// What is wrong with a name with this many arguments, in a position of this kind. `meaning` is what it stands for.
@@ -373,10 +351,7 @@ pub(crate) fn bound<N: Names>(
 fn is_crate(meaning: Option<Known<'_>>) -> bool
     ensures { result ≡ option_map_or is_crate (option_map known_of meaning.entry) false }
 {
-    match meaning {
-        Some(Known::Crate { .. }) => true,
-        _ => false,
-    }
+    matches!(meaning, Some(Known::Crate { .. }))
 }
 
 /// What is wrong with the name of a crate, on a line that declares no struct and no trait.

@@ -56,16 +56,10 @@ fn has_many_params(statement: &Statement<'_>) -> bool
 fn is_large<N: LineNames>(names: &N, statement: &Statement<'_>) -> bool
     ensures { result ≡ is_large_for (N.sight names.now).before (statement_of statement.now) }
 {
-    if is_full(names, statement) {
-        return true;
-    }
-    if statement.has_long_name() {
-        return true;
-    }
-    if has_many_params(statement) {
-        return true;
-    }
-    statement.part_count() > PART_LIMIT
+    is_full(names, statement)
+        || statement.has_long_name()
+        || has_many_params(statement)
+        || statement.part_count() > PART_LIMIT
 }
 
 /// Whether a line exceeds a limit, given what was found of it. Fails only if memory is refused.

@@ -67,16 +67,12 @@ impl<'a> ParamNames<'a> {
     fn are_taken<N: Names>(&self, names: &N, alloc: Global) -> Result<bool, AllocError>
         ensures { IfOk result (λ b. b ≡ collected_taken (seen_items (N.sight names.now)) self.now) }
     {
-        if repeats(alloc, &self.lifetimes)? {
-            return Ok(true);
-        }
-        if has_static(&self.lifetimes) {
-            return Ok(true);
-        }
-        if repeats(alloc, &self.others)? {
-            return Ok(true);
-        }
-        Ok(any_known(names, &self.others))
+        Ok(
+            repeats(alloc, &self.lifetimes)?
+                || has_static(&self.lifetimes)
+                || repeats(alloc, &self.others)?
+                || any_known(names, &self.others),
+        )
     }
 }
 

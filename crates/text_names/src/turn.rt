@@ -228,9 +228,6 @@ impl Next<'_> {
     fn is_finished(self) -> bool
         ensures { result ≡ is_finished self.entry }
     {
-        match self {
-            Next::Finished => true,
-            _ => false,
-        }
+        matches!(self, Next::Finished)
     }
 }

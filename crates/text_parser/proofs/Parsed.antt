@@ -1,5 +1,6 @@
 -- What is read of a text is what it gives, since a text gives one thing.
-use Rattle.std.proofs.Common.{◌≡◌, ℕ, List, Result, Ok, Err, refl, subst}
+use Rattle.std.proofs.Common.{◌≡◌, ℕ, List, Result, Ok, Err, IfOk, refl, subst}
+use Rattle.std.specs.Prelude.{IfErr, MatchResult}
 use Rattle.text_language.specs.Promised.Declarations.{Declarations}
 use Rattle.text_language.specs.Text.{TextGives}
 use Rattle.text_lines.proofs.Outcome.{one_outcome}
@@ -35,3 +36,16 @@ pub same-fault : (bytes : List ℕ) (k n : ℕ) (e : TextError) → IsTextError 
 unfolding Fails
 same-fault bytes k n (errors.Text f) g h = subst (λ r. Fails r k n) (one_outcome bytes (Err (k, n)) (Err (f.line, fault_number f.kind)) h g) (refl, refl)
 same-fault bytes k n errors.Memory g h = tt
+
+-- what was read of a text that gives declarations, and of one with a fault
+pub gives-declarations :
+    (bytes : List ℕ) (d : Declarations) (r : Result Declarations TextError) → IfOk r (λ w. TextGives bytes (Ok w)) → IfErr r (IsTextError bytes)
+    → TextGives bytes (Ok d) → MatchResult r (λ w. w ≡ d) (λ e. e ≡ errors.Memory)
+gives-declarations bytes d (Ok w) taken refused h = same-declarations bytes w d taken h
+gives-declarations bytes d (Err e) taken refused h = memory-alone bytes d e refused h
+
+pub gives-fault :
+    (bytes : List ℕ) (k n : ℕ) (r : Result Declarations TextError) → IfOk r (λ w. TextGives bytes (Ok w)) → IfErr r (IsTextError bytes)
+    → TextGives bytes (Err (k, n)) → MatchResult r (λ w. ⊥) (IsFaultAt k n)
+gives-fault bytes k n (Ok w) taken refused h = not-faulty bytes w k n taken h
+gives-fault bytes k n (Err e) taken refused h = same-fault bytes k n e refused h

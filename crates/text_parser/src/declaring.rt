@@ -1,9 +1,8 @@
 //! What a line declares or queries is added to the tables. All parts of a line are made before the tables change, so a line's own item is
 //! never found while its parts are made.
-ghost use Rattle.std.specs.Prelude.{◌≡◌, ◌<◌, ◌≤◌, length, OnOk};
+ghost use Rattle.std.specs.Prelude.{◌≡◌, ◌<◌, length, OnOk};
 ghost use Rattle.text_lines.specs.Views.{params_in, statement_of};
-ghost use Rattle.text_parser.specs.Declaring.{IsFaultless, IsFoundOf, AddsLine};
-ghost use Rattle.text_tables.specs.Numbered.{IsFew};
+ghost use Rattle.text_parser.specs.Declaring.{IsJudged, AddsLine};
 ghost use Rattle.text_tables.specs.Tables.{declared, IsConsistent};
 ghost use Rattle.text_tables.specs.Views.{asker_of};
 ghost use Rattle.text_parser.specs.Entries.{SaysStruct, SaysTrait, SaysImpl, IsAsking};
@@ -11,13 +10,12 @@ ghost use Rattle.text_parser.specs.Entries.{SaysStruct, SaysTrait, SaysImpl, IsA
 use crate::entries::{
     ImplReferences, impl_references, question_entry, struct_fields, trait_bounds,
 };
-use crate::lines::TEXT_LIMIT;
 use crate::params::{kinds_of, named_params};
 use crate::so_far::SoFar;
 use std::alloc::{AllocError, Global};
 use text_lines::{LineRead, Param, Statement};
 use text_names::LineFound;
-use text_tables::{Asked, ENTRY_LIMIT, Tables};
+use text_tables::{Asked, Tables};
 
 /// What precedes the fields of a struct.
 #[derive(Clone, Copy)]
@@ -43,11 +41,7 @@ fn declare_struct<'a>(
     found: &LineFound<'a>,
     head: StructHead<'_, '_>,
 ) -> Result<(), AllocError>
-    requires agrees { IsConsistent tables.old }
-    requires few { IsFew (declared tables.old) ENTRY_LIMIT }
-    requires faultless { IsFaultless (declared tables.old) read.now }
-    requires short { length read.now.cells.items ≤ TEXT_LIMIT }
-    requires found { IsFoundOf (declared tables.old) read.now found.now }
+    requires judged { IsJudged tables.old read.now found.now }
     requires line { SaysStruct (statement_of read.now.statement) head.is_fundamental head.name.now (params_in head.params.now) }
     ensures added { OnOk result (AddsLine (declared tables.old) read.now (declared tables.new)) }
     ensures agrees { OnOk result (IsConsistent tables.new) }
@@ -64,11 +58,7 @@ fn declare_trait<'a>(
     found: &LineFound<'a>,
     head: TraitHead<'_, '_>,
 ) -> Result<(), AllocError>
-    requires agrees { IsConsistent tables.old }
-    requires few { IsFew (declared tables.old) ENTRY_LIMIT }
-    requires faultless { IsFaultless (declared tables.old) read.now }
-    requires short { length read.now.cells.items ≤ TEXT_LIMIT }
-    requires found { IsFoundOf (declared tables.old) read.now found.now }
+    requires judged { IsJudged tables.old read.now found.now }
     requires line { SaysTrait (statement_of read.now.statement) head.is_fundamental head.is_auto head.name.now
         (params_in head.params.now) }
     ensures added { OnOk result (AddsLine (declared tables.old) read.now (declared tables.new)) }
@@ -92,11 +82,7 @@ fn declare_impl<'a>(
     found: &LineFound<'a>,
     params: &[Param<'_>],
 ) -> Result<(), AllocError>
-    requires agrees { IsConsistent tables.old }
-    requires few { IsFew (declared tables.old) ENTRY_LIMIT }
-    requires faultless { IsFaultless (declared tables.old) read.now }
-    requires short { length read.now.cells.items ≤ TEXT_LIMIT }
-    requires found { IsFoundOf (declared tables.old) read.now found.now }
+    requires judged { IsJudged tables.old read.now found.now }
     requires line { SaysImpl (statement_of read.now.statement) (params_in params.now) }
     ensures added { OnOk result (AddsLine (declared tables.old) read.now (declared tables.new)) }
     ensures agrees { OnOk result (IsConsistent tables.new) }
@@ -118,11 +104,7 @@ fn declare_question<'a>(
     asked_how: Asked,
     params: &[Param<'_>],
 ) -> Result<(), AllocError>
-    requires agrees { IsConsistent tables.old }
-    requires few { IsFew (declared tables.old) ENTRY_LIMIT }
-    requires faultless { IsFaultless (declared tables.old) read.now }
-    requires short { length read.now.cells.items ≤ TEXT_LIMIT }
-    requires found { IsFoundOf (declared tables.old) read.now found.now }
+    requires judged { IsJudged tables.old read.now found.now }
     requires line { IsAsking (declared tables.old) (statement_of read.now.statement) asked_how (params_in params.now) }
     requires asker { asker_of asked_how < length (declared tables.old).crates }
     ensures added { OnOk result (AddsLine (declared tables.old) read.now (declared tables.new)) }
@@ -136,17 +118,13 @@ fn declare_question<'a>(
 /// or queries. No name is looked up again.
 ///
 /// Fails only if memory is refused, and then the tables must not be used any more.
-pub fn declare<'a>(
+pub(crate) fn declare<'a>(
     tables: &mut Tables,
     alloc: Global,
     read: &LineRead<'a>,
     found: &LineFound<'a>,
 ) -> Result<(), AllocError>
-    requires agrees { IsConsistent tables.old }
-    requires few { IsFew (declared tables.old) ENTRY_LIMIT }
-    requires faultless { IsFaultless (declared tables.old) read.now }
-    requires short { length read.now.cells.items ≤ TEXT_LIMIT }
-    requires found { IsFoundOf (declared tables.old) read.now found.now }
+    requires { IsJudged tables.old read.now found.now }
     ensures added { OnOk result (AddsLine (declared tables.old) read.now (declared tables.new)) }
     ensures agrees { OnOk result (IsConsistent tables.new) }
 {

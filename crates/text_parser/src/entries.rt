@@ -1,7 +1,7 @@
 //! The types and trait references of a line, by numbers alone.
-ghost use Rattle.std.specs.Prelude.{◌≡◌, ◌≤◌, length, map, IfOk};
+ghost use Rattle.std.specs.Prelude.{◌≡◌, map, IfOk};
 ghost use Rattle.text_lines.specs.Views.{params_in, statement_of};
-ghost use Rattle.text_parser.specs.Declaring.{IsRead, IsFaultless, IsFoundOf};
+ghost use Rattle.text_parser.specs.Declaring.{IsRead, IsJudged};
 ghost use Rattle.text_tables.specs.Made.{AreMade, ReferenceMade, ReferencesMade, is_type};
 ghost use Rattle.text_tables.specs.Numbered.{IsFew};
 ghost use Rattle.text_tables.specs.Tables.{declared, IsConsistent};
@@ -11,7 +11,6 @@ ghost use Rattle.text_parser.specs.Entries.{OfRead, AreFields, AreBoundsOfLine, 
 ghost use Rattle.text_parser.specs.Sights.{IsSightOfRead, sight_of};
 
 use crate::line_tables::LineTables;
-use crate::lines::TEXT_LIMIT;
 use crate::numbering::Numbering;
 use crate::params::{named_params, named_variables};
 use crate::parts::{bound_cells, clause_cells, clauses_cells, field_cells};
@@ -49,11 +48,7 @@ pub(crate) fn struct_fields<'a>(
     read: &LineRead<'a>,
     found: &LineFound<'a>,
 ) -> Result<Vec<TermCell>, AllocError>
-    requires agrees { IsConsistent tables.now }
-    requires few { IsFew (declared tables.now) ENTRY_LIMIT }
-    requires faultless { IsFaultless (declared tables.now) read.now }
-    requires short { length read.now.cells.items ≤ TEXT_LIMIT }
-    requires found { IsFoundOf (declared tables.now) read.now found.now }
+    requires judged { IsJudged tables.now read.now found.now }
     requires line { IsStruct (statement_of read.now.statement) }
     ensures made { IfOk result (λ cs. AreMade is_type cs.items) }
     ensures are { IfOk result (λ cs. OfRead read.now (λ l. AreFields (declared tables.now) l (trees_of (cells_of cs.items)))) }
@@ -74,11 +69,7 @@ pub(crate) fn trait_bounds<'a>(
     read: &LineRead<'a>,
     found: &LineFound<'a>,
 ) -> Result<Vec<ReferenceCells>, AllocError>
-    requires agrees { IsConsistent tables.now }
-    requires few { IsFew (declared tables.now) ENTRY_LIMIT }
-    requires faultless { IsFaultless (declared tables.now) read.now }
-    requires short { length read.now.cells.items ≤ TEXT_LIMIT }
-    requires found { IsFoundOf (declared tables.now) read.now found.now }
+    requires judged { IsJudged tables.now read.now found.now }
     requires line { IsTrait (statement_of read.now.statement) }
     ensures made { IfOk result (λ rs. ReferencesMade rs.items) }
     ensures are { IfOk result (λ rs. OfRead read.now (λ l. AreBoundsOfLine (declared tables.now) l (map reference_of rs.items))) }
@@ -95,11 +86,7 @@ pub(crate) fn impl_references<'a>(
     read: &LineRead<'a>,
     found: &LineFound<'a>,
 ) -> Result<ImplReferences, AllocError>
-    requires agrees { IsConsistent tables.now }
-    requires few { IsFew (declared tables.now) ENTRY_LIMIT }
-    requires faultless { IsFaultless (declared tables.now) read.now }
-    requires short { length read.now.cells.items ≤ TEXT_LIMIT }
-    requires found { IsFoundOf (declared tables.now) read.now found.now }
+    requires judged { IsJudged tables.now read.now found.now }
     requires line { IsImpl (statement_of read.now.statement) }
     ensures header_made { IfOk result (λ r. ReferenceMade r.header) }
     ensures header { IfOk result (λ r. OfRead read.now (λ l. IsMain (declared tables.now) l (reference_of r.header))) }
@@ -128,11 +115,7 @@ pub(crate) fn question_entry<'a>(
     asked_how: Asked,
     params: &[Param<'_>],
 ) -> Result<QuestionEntry, AllocError>
-    requires agrees { IsConsistent tables.now }
-    requires few { IsFew (declared tables.now) ENTRY_LIMIT }
-    requires faultless { IsFaultless (declared tables.now) read.now }
-    requires short { length read.now.cells.items ≤ TEXT_LIMIT }
-    requires found { IsFoundOf (declared tables.now) read.now found.now }
+    requires judged { IsJudged tables.now read.now found.now }
     requires line { IsAsking (declared tables.now) (statement_of read.now.statement) asked_how (params_in params.now) }
     ensures how { IfOk result (λ q. q.asked_how ≡ asked_how) }
     ensures asked_made { IfOk result (λ q. ReferenceMade q.asked) }

@@ -22,7 +22,7 @@ use text_tables::{ENTRY_LIMIT, Tables};
 /// a line without a fault, what was found of it: its types and bounds with all names looked up.
 ///
 /// Fails only if memory is refused. Nothing is changed.
-pub fn judge_line<'a>(
+pub(crate) fn judge_line<'a>(
     tables: &Tables,
     alloc: Global,
     read: &LineRead<'a>,

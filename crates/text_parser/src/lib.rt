@@ -7,12 +7,10 @@ ghost use Rattle.text_parser.specs.Laws.{FaultlessParts, NumbersAreSmall};
 ghost use Rattle.text_parser.specs.Prefixes.{FirstBytesDecide};
 
 mod cell;
-mod declares;
 mod declaring;
 mod entries;
 mod fault;
 mod faults;
-mod filled_tables;
 mod form;
 mod keep;
 mod line_tables;
@@ -27,17 +25,13 @@ mod small;
 mod so_far;
 mod text;
 
-pub use declares::Declares;
-pub use declaring::declare;
 pub use fault::{TextError, TextFault};
-pub use faults::judge_line;
 pub use form::{LineForm, line_form};
 pub use lines::{TEXT_LIMIT, is_one_line, long_line, split_line};
 pub use numbering::Numbering;
 pub use parsing::parse;
 pub use parts::{bound_cells, clause_cells, clauses_cells, field_cells};
 pub use query_line::{QueryLine, read_query};
-pub use text::read_text;
 use text_tables::ENTRY_LIMIT;
 
 // The crates below whose names the crates above need too: these list this crate alone.

@@ -6,7 +6,6 @@ ghost use Rattle.text_parser.specs.Outcomes.{IsTextError};
 ghost use Rattle.text_parser.specs.Parsing.{IsFaultAt};
 
 use crate::fault::TextError;
-use crate::filled_tables::TextTables;
 use crate::text::read_text;
 use std::alloc::Global;
 use text_tables::Workspace;
@@ -21,6 +20,5 @@ pub fn parse(alloc: Global, bytes: &[u8]) -> Result<Workspace, TextError>
     ensures gives { (d : Declarations) → TextGives bytes.now (Ok d) → MatchResult result (λ w. w ≡ d) (λ e. e ≡ TextError.Memory) }
     ensures faulty { (k n : ℕ) → TextGives bytes.now (Err (k, n)) → MatchResult result (λ w. ⊥) (λ e. IsFaultAt k n e) }
 {
-    let TextTables { tables } = read_text::<TextTables>(alloc, bytes)?;
-    Ok(Workspace::new(tables))
+    read_text(alloc, bytes)
 }

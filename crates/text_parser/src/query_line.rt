@@ -1,7 +1,7 @@
 //! A line that is asked behind the lines of a text.
 ghost use Rattle.std.specs.Prelude.{◌≡◌, ◌<◌, ◌≤◌, length, IfOk};
 ghost use Rattle.text_lines.specs.Views.{params_in, statement_of};
-ghost use Rattle.text_parser.specs.Declaring.{IsRead, IsFaultless, IsFoundOf};
+ghost use Rattle.text_parser.specs.Declaring.{IsRead, IsJudged};
 ghost use Rattle.text_parser.specs.Entries.{IsAsking};
 ghost use Rattle.text_parser.specs.Queries.{IsQueryLine, IsQueryRead};
 ghost use Rattle.text_tables.specs.Numbered.{IsFew};
@@ -38,11 +38,7 @@ fn asked_line<'a>(
     asked_how: Asked,
     params: &[Param<'_>],
 ) -> Result<QueryLine, AllocError>
-    requires agrees { IsConsistent tables.now }
-    requires few { IsFew (declared tables.now) ENTRY_LIMIT }
-    requires faultless { IsFaultless (declared tables.now) read.now }
-    requires short { length read.now.cells.items ≤ TEXT_LIMIT }
-    requires found { IsFoundOf (declared tables.now) read.now found.now }
+    requires judged { IsJudged tables.now read.now found.now }
     requires line { IsAsking (declared tables.now) (statement_of read.now.statement) asked_how (params_in params.now) }
     requires asker { asker_of asked_how < length (declared tables.now).crates }
     ensures { IfOk result (IsQueryRead (declared tables.now) read.now) }
@@ -58,11 +54,7 @@ fn faultless_line<'a>(
     read: &LineRead<'a>,
     found: &LineFound<'a>,
 ) -> Result<QueryLine, AllocError>
-    requires agrees { IsConsistent tables.now }
-    requires few { IsFew (declared tables.now) ENTRY_LIMIT }
-    requires faultless { IsFaultless (declared tables.now) read.now }
-    requires short { length read.now.cells.items ≤ TEXT_LIMIT }
-    requires found { IsFoundOf (declared tables.now) read.now found.now }
+    requires { IsJudged tables.now read.now found.now }
     ensures { IfOk result (IsQueryRead (declared tables.now) read.now) }
 {
     match &read.statement {

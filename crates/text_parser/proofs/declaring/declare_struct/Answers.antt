@@ -12,7 +12,7 @@ struct_fields-requires-clause-line c = struct-is (statement_of c.args.read.now.s
 pub add_struct-requires-clause-new : goal.add_struct-requires-clause-new
 add_struct-requires-clause-new c =
     let (ss, line) = struct-said (statement_of c.args.read.now.statement) c.args.head.is_fundamental c.args.head.name.now (params_in c.args.head.params.now) c.requires.line in
-    new-name (declared c.args.tables.now) c.args.read.now (struct_statement c.args.head.is_fundamental c.args.head.name.now (params_in c.args.head.params.now) ss) c.args.head.name.now c.requires.faultless line refl
+    new-name (declared c.args.tables.now) c.args.read.now (struct_statement c.args.head.is_fundamental c.args.head.name.now (params_in c.args.head.params.now) ss) c.args.head.name.now c.requires.judged.faultless line refl
 
 pub returns-clause-added : goal.returns-clause-added
 returns-clause-added c =

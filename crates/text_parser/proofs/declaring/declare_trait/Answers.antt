@@ -12,7 +12,7 @@ trait_bounds-requires-clause-line c = trait-is (statement_of c.args.read.now.sta
 pub add_trait-requires-clause-new : goal.add_trait-requires-clause-new
 add_trait-requires-clause-new c =
     let (ss, line) = trait-said (statement_of c.args.read.now.statement) c.args.head.is_fundamental c.args.head.is_auto c.args.head.name.now (params_in c.args.head.params.now) c.requires.line in
-    new-name (declared c.args.tables.now) c.args.read.now (trait_statement c.args.head.is_fundamental c.args.head.is_auto c.args.head.name.now (params_in c.args.head.params.now) ss) c.args.head.name.now c.requires.faultless line refl
+    new-name (declared c.args.tables.now) c.args.read.now (trait_statement c.args.head.is_fundamental c.args.head.is_auto c.args.head.name.now (params_in c.args.head.params.now) ss) c.args.head.name.now c.requires.judged.faultless line refl
 
 pub returns-clause-added : goal.returns-clause-added
 returns-clause-added c =
