@@ -31,7 +31,7 @@ import sys
 import threading
 from concurrent.futures import ThreadPoolExecutor
 from ctypes import POINTER, byref, c_char, c_char_p, c_size_t, c_uint32, c_void_p
-from dataclasses import dataclass
+from dataclasses import dataclass, field
 from pathlib import Path
 from types import TracebackType
 from typing import Any, Callable, Iterator, NoReturn, Optional, Sequence, TypeVar, Union
@@ -98,25 +98,26 @@ class Overlap(WithoutTruthValue):
 
 
 @dataclass(frozen=True)
-class Yes(WithoutTruthValue):
-    """The reference has a proof, with these values for its variables, by their names; one without a value is not listed."""
+class WithValues(WithoutTruthValue):
+    """What has values for variables, by their names; one without a value is not listed."""
 
-    values: dict[str, str]
+    values: dict[str, str] = field(default_factory=dict)
 
     def __hash__(self) -> int:
-        return hash(frozenset(self.values.items()))
+        return hash((type(self), frozenset(self.values.items())))
 
     def __str__(self) -> str:
         values = ", ".join(f"?{variable} = {value}" for variable, value in self.values.items())
-        return f"yes {values}".rstrip()
+        return f"{type(self).__name__.lower()} {values}".rstrip()
 
 
-@dataclass(frozen=True)
-class Maybe(WithoutTruthValue):
-    """Whether it has a proof is not settled."""
+class Yes(WithValues):
+    """The reference has a proof, with these values for its variables."""
 
-    def __str__(self) -> str:
-        return "maybe"
+
+class Maybe(WithValues):
+    """Whether it has a proof is not settled. These values are what is known of its variables: if the question has no parameters, each solution
+    is an instance of them."""
 
 
 @dataclass(frozen=True)
@@ -456,15 +457,15 @@ def values(text: str) -> dict[str, str]:
     return {variable[1:]: value for variable, _, value in pairs}
 
 
-PLAIN: dict[str, Answer] = {str(it): it for it in (Accepted(), Maybe(), Unproved(), No(), Open(), Compatible(), Held())}
+PLAIN: dict[str, Answer] = {str(it): it for it in (Accepted(), Unproved(), No(), Open(), Compatible(), Held())}
 
 
 def read_answer(text: str) -> Answer:
     word, _, rest = text.partition(" ")
     if text in PLAIN:
         return PLAIN[text]
-    if word == "yes":
-        return Yes(values(rest))
+    if word in ("yes", "maybe"):
+        return {"yes": Yes, "maybe": Maybe}[word](values(rest))
     if word == "orphan":
         _, number, reason = rest.split(" ", 2)
         param, _, before = reason.partition(" ")[2].partition(" before ")

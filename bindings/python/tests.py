@@ -169,6 +169,14 @@ class Calls(unittest.TestCase):
         wanted = {"x": "P<u8, str>", "y": "bool", "z": "fn(P<u8, str>, u8) -> [P<u8, str>]"}
         self.assertEqual(session.prove("P<?x, ?y>: Conv<(P<u8, str>, ?z)>"), Yes(wanted))
 
+    def test_what_is_known_of_an_undecided_question(self) -> None:
+        shows = "trait Show\nimpl Show for u8\nimpl Show for bool\n"
+        session = Workspace(f"crate a\nstruct V<T>\n{shows}trait Conv<T>\nimpl<T> Conv<V<T>> for u8 where T: Show\n").session("a")
+        known, unknown = session.prove("u8: Conv<?x>"), session.prove("<T> u8: Conv<?x> where T: Show")
+        self.assertEqual((known, str(known)), (Maybe({"x": "V<?1>"}), "maybe ?x = V<?1>"))
+        self.assertEqual((unknown, str(unknown)), (Maybe(), "maybe"))
+        self.assertNotEqual(Maybe(), Yes())
+
     def test_words_of_another_type(self) -> None:
         workspace, anything = Workspace(TEXT), celtisdarts
         session = workspace.session("a")

@@ -14,7 +14,7 @@ FORMS = {
     "crate": r"(accepted|orphan impl [1-9][0-9]* (?:nonlocal|uncovered .+)|overlap impl [1-9][0-9]* with [A-Za-z_][A-Za-z0-9_]* [1-9][0-9]*)",
     "later": r"(compatible|breaking impl [1-9][0-9]*)",
     "supers": r"(held|(?:missing|undecided) impl [1-9][0-9]* clause [1-9][0-9]*)",
-    "prove": r"(yes(?: \?[^ ]+ = .+)?|maybe|unproved)",
+    "prove": r"((?:yes|maybe)(?: \?[^ ]+ = .+)?|unproved)",
     "refute": r"(no|open)",
 }
 

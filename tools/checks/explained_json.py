@@ -35,7 +35,7 @@ PARTS: Mapping[str, tuple[Mapping[str, Kind], ...]] = {
     "fault": ({"fault": int},), "accepted": ({},), "overlap": ({"impl": int, "with": str, "with_impl": int},),
     "orphan": ({"impl": int, "nonlocal": bool}, {"impl": int, "uncovered": str}, {"impl": int, "uncovered": str, "before": str}),
     "compatible": ({},), "breaking": ({"impl": int},), "held": ({},), "missing": ({"impl": int, "clause": int},),
-    "undecided": ({"impl": int, "clause": int},), "yes": ({"values": dict},), "maybe": ({},), "unproved": ({},), "no": ({},), "open": ({},),
+    "undecided": ({"impl": int, "clause": int},), "yes": ({"values": dict},), "maybe": ({"values": dict},), "unproved": ({},), "no": ({},), "open": ({},),
 }
 SUBJECTS: Mapping[str, tuple[str, Kind]] = {
     "line": ("line", int), "crate": ("crate", str), "later": ("crate", str), "supers": ("crate", str), "prove": ("question", int), "refute": ("question", int),

@@ -143,7 +143,7 @@ fn value(session: &mut Session, bound: &str) -> Result<Option<String>, Error> {
             let found = values.into_iter().find(|it| it.variable == "t");
             Ok(found.map(|it| it.value))
         }
-        ProveAnswer::Maybe | ProveAnswer::Unproved => Ok(None),
+        ProveAnswer::Maybe(_) | ProveAnswer::Unproved => Ok(None),
     }
 }
 
@@ -181,7 +181,7 @@ fn candidates(session: &mut Session, taken: &str, name: &str) -> Result<Vec<Cand
                     of = of.replace(&format!("?{}", it.variable), &it.value);
                 }
             }
-            ProveAnswer::Maybe => is_maybe = true,
+            ProveAnswer::Maybe(_) => is_maybe = true,
             ProveAnswer::Unproved => continue,
         }
         let own = own.to_string();

@@ -67,7 +67,10 @@ impl Checker {
             let bound = filled(&self.values, &bound);
             match self.session.prove(&bound) {
                 Ok(Yes(values)) => self.take(line, &values),
-                Ok(Maybe) => self.waiting.push((line, bound)),
+                Ok(Maybe(values)) => {
+                    self.take(line, &values);
+                    self.waiting.push((line, bound));
+                }
                 Ok(Unproved) => self.errors.extend([(line, bound + " does not hold")]),
                 Err(error) => self.errors.extend([(line, format!("{bound}: {error}"))]),
             }

@@ -74,8 +74,9 @@ pub enum SupersAnswer {
 pub enum ProveAnswer {
     /// It has one, with these values for its variables; one without a value is not listed.
     Yes(Vec<Value>),
-    /// That is not settled.
-    Maybe,
+    /// That is not settled. What is known of its variables are these values; one of which nothing is known is not listed. If the question has
+    /// no parameters, each solution is an instance of them.
+    Maybe(Vec<Value>),
     /// No proof was found.
     Unproved,
 }
@@ -177,17 +178,20 @@ impl fmt::Display for SupersAnswer {
     }
 }
 
+/// A word and the values behind it.
+fn write_values(f: &mut fmt::Formatter<'_>, word: &str, values: &[Value]) -> fmt::Result {
+    f.write_str(word)?;
+    for (place, value) in values.iter().enumerate() {
+        write!(f, "{}{value}", if place == 0 { " " } else { ", " })?;
+    }
+    Ok(())
+}
+
 impl fmt::Display for ProveAnswer {
     fn fmt(&self, f: &mut fmt::Formatter<'_>) -> fmt::Result {
         match self {
-            ProveAnswer::Yes(values) => {
-                f.write_str("yes")?;
-                for (place, value) in values.iter().enumerate() {
-                    write!(f, "{}{value}", if place == 0 { " " } else { ", " })?;
-                }
-                Ok(())
-            }
-            ProveAnswer::Maybe => f.write_str("maybe"),
+            ProveAnswer::Yes(values) => write_values(f, "yes", values),
+            ProveAnswer::Maybe(values) => write_values(f, "maybe", values),
             ProveAnswer::Unproved => f.write_str("unproved"),
         }
     }

@@ -94,11 +94,16 @@ fn supers(text: &str) -> Option<SupersAnswer> {
 }
 
 fn prove(text: &str) -> Option<ProveAnswer> {
-    match text {
-        "yes" => Some(ProveAnswer::Yes(Vec::new())),
-        "maybe" => Some(ProveAnswer::Maybe),
-        "unproved" => Some(ProveAnswer::Unproved),
-        _ => values(text.strip_prefix("yes ")?).map(ProveAnswer::Yes),
+    match text.split_once(' ') {
+        None => match text {
+            "yes" => Some(ProveAnswer::Yes(Vec::new())),
+            "maybe" => Some(ProveAnswer::Maybe(Vec::new())),
+            "unproved" => Some(ProveAnswer::Unproved),
+            _ => None,
+        },
+        Some(("yes", rest)) => values(rest).map(ProveAnswer::Yes),
+        Some(("maybe", rest)) => values(rest).map(ProveAnswer::Maybe),
+        Some(_) => None,
     }
 }
 

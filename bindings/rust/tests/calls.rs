@@ -110,7 +110,7 @@ fn a_question_with_a_fault_changes_nothing() {
             Ok(ProveAnswer::Yes(vec![]))
         );
         assert_eq!(session.prove("bool: Show"), Ok(ProveAnswer::Unproved));
-        assert_eq!(session.prove("?x: Show"), Ok(ProveAnswer::Maybe));
+        assert_eq!(session.prove("?x: Show"), Ok(ProveAnswer::Maybe(vec![])));
         assert_eq!(
             session.prove("<T> V<T>: Show where T: Show"),
             Ok(ProveAnswer::Yes(vec![]))
@@ -119,6 +119,20 @@ fn a_question_with_a_fault_changes_nothing() {
         assert_eq!(session.refute("V<V<V<u8>>>: Clone"), Ok(RefuteAnswer::No));
         assert_eq!(session.check_crate(), Ok(Verdict::Accepted));
     }
+}
+
+#[test]
+fn an_undecided_question_tells_what_is_known() {
+    let shows = "trait Show\nimpl Show for u8\nimpl Show for bool\n";
+    let workspace = workspace(&format!(
+        "crate a\nstruct V<T>\n{shows}trait Conv<T>\nimpl<T> Conv<V<T>> for u8 where T: Show\n"
+    ));
+    let mut session = workspace.session("a").unwrap();
+    let known = session.prove("u8: Conv<?x>").unwrap();
+    assert_eq!(known.to_string(), "maybe ?x = V<?1>");
+    assert!(matches!(known, ProveAnswer::Maybe(values) if values.len() == 1));
+    let unknown = session.prove("<T> u8: Conv<?x> where T: Show");
+    assert_eq!(unknown, Ok(ProveAnswer::Maybe(vec![])));
 }
 
 #[test]
@@ -236,7 +250,7 @@ fn asks_the_deepest(depth: Depth) {
     let workspace = Workspace::parse(DEEPEST, depth).unwrap();
     let mut session = workspace.session("a").unwrap();
     assert_eq!(session.check_crate(), Ok(Verdict::Accepted));
-    assert_eq!(session.prove("E: T"), Ok(ProveAnswer::Maybe));
+    assert_eq!(session.prove("E: T"), Ok(ProveAnswer::Maybe(vec![])));
 }
 
 #[test]

@@ -189,7 +189,7 @@ pub(crate) fn explain_proved(
         ProveAnswer::Yes(values) => {
             explain_yes(alloc, question, session, number, values, spending)?
         }
-        ProveAnswer::Maybe => {
+        ProveAnswer::Maybe(_) => {
             explain_not_proved(alloc, question, session, number, NotProved::Maybe, spending)?
         }
         ProveAnswer::Unproved => {

@@ -14,7 +14,9 @@ use Rattle.sessions.proofs.TypeTerms.ProofEntries.{map-in}
 use Rattle.sessions.proofs.TypeTerms.ViewLaws.{sees-itself}
 use Rattle.sessions.specs.TextLanguage.Promised.Declarations.{Declarations, NamedImpl, Check, of_later, of_supers, Question, world_of}
 use Rattle.sessions.specs.TextLanguage.Names.{answer_values}
+use Rattle.sessions.specs.TypeTerms.Promised.Trees.{Trees}
 use Rattle.sessions.specs.TextLanguage.Output.{Answer, answer_text, values_text}
+use Rattle.sessions.specs.TextLanguage.Promised.PrintedTypes.{yes_values_text}
 use Rattle.sessions.proofs.TextLanguage.SamePrinted.{yes-values-text-is}
 use Rattle.sessions.specs.QuestionAnswers as answers
 use Rattle.sessions.specs.TextQuestions.{variable_kinds}
@@ -151,15 +153,19 @@ held-answer limit d c _ (says_stopped _ k j w i s) e =
 
 -- ---- questions
 module _ (limit : ℕ) (d : Declarations) (n : ℕ) (q : Question) where
+  -- the line with the values, which come after a word
+  with-values : (word : List ℕ) (ts : List Trees) → codes "prove " ++ decimal n ++ codes ": " ++ (word ++ yes_values_text d q ts) ≡ codes "prove " ++ decimal n ++ codes ": " ++ word ++ values_text (answer_values d q ts)
+  with-values word ts =
+      let start : List ℕ = codes "prove " ++ decimal n ++ codes ": " in
+      ap (λ v. start ++ (word ++ v)) (yes-values-text-is d q ts) ∙ sym (append_assoc start word (values_text (answer_values d q ts)))
+
   question-told : (l : Answer) → IsQuestionLine limit d n q l → QuestionAnswer limit d n q (answer_text l)
   question-told _ (of_prove (answers.yes ts) e h) =
-      let start : List ℕ = codes "prove " ++ decimal n ++ codes ": " in
-      subst (QuestionAnswer limit d n q)
-      (ap (λ v. start ++ (codes "yes" ++ v)) (yes-values-text-is d q ts) ∙ sym (append_assoc start (codes "yes") (values_text (answer_values d q ts))))
+      subst (QuestionAnswer limit d n q) (with-values (codes "yes") ts)
       (says_proved (answers.yes ts) e h (λ W vs rank l ρ v.
       yes-holds W vs rank l (placed (view_in d q.asker) q.asker ρ) v limit (variable_kinds q) ts (map erased_reference q.clauses) (erased_reference q.asked) h.0))
   question-told _ (of_prove answers.unproved e h) = says_proved answers.unproved e h tt
-  question-told _ (of_prove answers.maybe e h) = says_proved answers.maybe e h tt
+  question-told _ (of_prove (answers.maybe ts) e h) = subst (QuestionAnswer limit d n q) (with-values (codes "maybe") ts) (says_proved (answers.maybe ts) e h tt)
   question-told _ (of_refute answers.no e h) = says_refuted answers.no e h
   question-told _ (of_refute answers.unrefuted e h) = says_refuted answers.unrefuted e h
 

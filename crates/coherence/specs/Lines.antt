@@ -44,7 +44,7 @@ pub data IsCheckLine (limit : ℕ) (d : Declarations) : Check → Answer → Typ
 -- ---- the line of a query, by its number from 1
 abbrev pub prove_line : Declarations → ℕ → Question → answers.ProveAnswer → Answer
 prove_line d n q (answers.yes values) = yes n (answer_values d q values)
-prove_line d n q answers.maybe = maybe n
+prove_line d n q (answers.maybe values) = maybe n (answer_values d q values)
 prove_line d n q answers.unproved = unproved n
 
 abbrev pub refute_line : ℕ → answers.RefuteAnswer → Answer

@@ -37,7 +37,7 @@ HasNoQuery d n = (q : Question) → IsQuestion d n q → ⊥
 -- The line that an answer to query number n prints.
 abbrev pub named_line : ℕ → NamedAnswer → Answer
 named_line n (named.Yes values) = yes n (map value_of values.items)
-named_line n named.Maybe = maybe n
+named_line n (named.Maybe values) = maybe n (map value_of values.items)
 named_line n named.Unproved = unproved n
 
 -- The answer is right for query number n, and its values have the names that the output has.

@@ -26,8 +26,8 @@ use text_printer::{Answer, ValueText, answer_values, print_line};
 pub enum NamedAnswer {
     /// The bound has a proof with these values. A variable without a value stands for itself.
     Yes(Vec<ValueText>),
-    /// The search does not know. An unambiguous query never gets this answer.
-    Maybe,
+    /// The search does not know. These values are what it knows of the variables. An unambiguous query never gets this answer.
+    Maybe(Vec<ValueText>),
     /// The search found no proof. If the query is unambiguous, there is none.
     Unproved,
 }
@@ -77,7 +77,10 @@ pub(crate) fn named_answer<L: Listener>(
             let texts = named_values(alloc, session.interner(), workspace, number, values)?;
             NamedAnswer::Yes(texts)
         }
-        ProveAnswer::Maybe => NamedAnswer::Maybe,
+        ProveAnswer::Maybe(values) => {
+            let texts = named_values(alloc, session.interner(), workspace, number, values)?;
+            NamedAnswer::Maybe(texts)
+        }
         ProveAnswer::Unproved => NamedAnswer::Unproved,
     };
     listener.proved(session, workspace, number, &answer);
@@ -100,7 +103,13 @@ pub(crate) fn print_named(
                 values,
             },
         ),
-        NamedAnswer::Maybe => print_line(alloc, &Answer::Maybe { question: number }),
+        NamedAnswer::Maybe(values) => print_line(
+            alloc,
+            &Answer::Maybe {
+                question: number,
+                values,
+            },
+        ),
         NamedAnswer::Unproved => print_line(alloc, &Answer::Unproved { question: number }),
     }
 }

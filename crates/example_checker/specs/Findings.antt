@@ -8,7 +8,7 @@ use Rattle.example_checker.specs.declared.Finding.TheVariants.{Holds, NeverHolds
 
 -- The line says neither `yes` nor `no`.
 abbrev pub LeavesOpen : ℕ → Answer → Type 0
-LeavesOpen n l = (l ≡ maybe n) ⊎ (l ≡ unproved n) ⊎ (l ≡ unrefuted n)
+LeavesOpen n l = ((values : List ValueText) × (l ≡ maybe n values)) ⊎ (l ≡ unproved n) ⊎ (l ≡ unrefuted n)
 
 -- Of query number n, from 1. `Holds`: `yes` with some values is its right line. `NeverHolds`: `no` is. `Unknown`: one that says neither.
 abbrev pub IsFound : ℕ → Declarations → ℕ → Finding → Type 0

@@ -32,7 +32,7 @@ pub fn check_query(asker: &mut Asker, number: u32) -> Result<Option<Finding>, Fa
     let found = match query {
         Query::Prove(query) => match asker.prove(query)? {
             NamedAnswer::Yes(_values) => Finding::Holds,
-            NamedAnswer::Maybe => Finding::Unknown,
+            NamedAnswer::Maybe(_values) => Finding::Unknown,
             NamedAnswer::Unproved => Finding::Unknown,
         },
         Query::Refute(query) => match asker.refute(query)? {

@@ -89,7 +89,7 @@ pub(crate) fn put_answer(
     if kind == "fault" {
         return put_word(alloc, object, kind, rest);
     }
-    if kind == "yes" {
+    if kind == "yes" || kind == "maybe" {
         return put_values(alloc, object, rest);
     }
     let mut left = rest;

@@ -121,7 +121,7 @@ decided-answered limit V ks E r (yes ts) d a = inl (ts, refl, subst (HasProof V 
     same : filled_reference ks ts r ≡ r
     same = ap (λ z. (let x : Reference = record { trait = r.trait; args = z } in x)) (filled-shut ks ts r.args (not-true (some_node is_variable r.args) d.0))
 decided-answered limit V ks E r unproved d a = inr (refl, a d)
-decided-answered limit V ks E r maybe d a = absurd (a d)
+decided-answered limit V ks E r (maybe ts) d a = absurd (a d)
 
 left : (a b : Bool) → a && b ≡ true → a ≡ true
 left true b h = refl

@@ -132,7 +132,7 @@ ParametersStandForThemselves =
     let P = leaf (placeholder of_type 0) in
     IsProveAnswer 8 show_world [] (asked 20 P ∷ []) (asked 20 (applied 10 P)) (yes [])
     × IsProveAnswer 8 show_world [] [] (asked 20 (applied 10 P)) unproved
-    × (IsProveAnswer 8 show_world [] [] (asked 20 (applied 10 u8)) maybe → ⊥)
+    × (IsProveAnswer 8 show_world [] [] (asked 20 (applied 10 u8)) (maybe []) → ⊥)
     × (IsProveAnswer 8 show_world [] [] (asked 20 (applied 10 u8)) unproved → ⊥)
 
 -- `crate base; trait Num; struct V<T>; refute in base V<?x>: Num` is `no`: only base may have such an impl, for

@@ -26,13 +26,14 @@ use Rattle.solver_graph.specs.Settling.{IsProvedBy, GoalIsRefused, IsUnsettled}
 use Rattle.solver_graph.specs.declared.context.SolverCx.{SolverCx}
 use Rattle.goal_frames.specs.Meanings.{HandlerMeaning}
 use Rattle.sessions.specs.Proved.{fact_with_values}
-use Rattle.sessions.specs.Proving.{AreReadOff, IsAnswered, IsRefusedGoal, IsUnsettledGoal, is_bound_term}
+use Rattle.sessions.specs.Proving.{AreReadOff, AreValuesOf, HasLeftValues, IsAnswered, IsRefusedGoal, IsUnsettledGoal, is_bound_term}
 use Rattle.sessions.specs.Tables.{table_of}
 use Rattle.sessions.specs.declared.answers.ProveAnswer.{ProveAnswer}
 use Rattle.sessions.specs.declared.answers.ProveAnswer.TheVariants.{Yes, Maybe, Unproved}
 use Rattle.sessions.proofs.Proved.{values-are-proved}
 use Rattle.type_terms.proofs.BooleanBasics.{no-more}
 use Rattle.type_terms.proofs.ListBasics.{two}
+use Rattle.type_terms.proofs.Made.{false-true}
 
 -- ---- values are put in below a predicate
 resolved-below : (bs : List Binding) (k : PredicateKind) (c : Trees) → resolved bs (tree (predicate k) c none) ≡ tree (predicate k) (resolved bs c) none
@@ -69,45 +70,58 @@ module _ {Handler : Type 0} (handler : HandlerMeaning Handler) (ks : List Sort) 
   pub unsettled-goal : (graph : SearchState) → IsUnsettled handler c graph t PostAnalysis g → IsUnsettledGoal handler w graph.root_depth goal
   unsettled-goal graph h = unsettled-there graph (subst (λ (u : Table). IsUnsettled handler c graph u PostAnalysis g) table_is h)
 
-  -- ---- what is proved
-  module _ (held : GoalHeld (entries_of c) g) (d : SolverCx Handler) (u : Table) (ready : Ready (entries_of d) u) (law : Lawful (entries_of d)) (k : Keeps (entries_of c) (entries_of d))
-      (proved : IsProvedBy handler w c t d u g) (left : IsLeftByAnswers handler c t PostAnalysis g d u) (us : List GenericArgKind) (us_held : ArgsHeld (entries_of c) us) where
+  -- ---- what the table gives
+  module _ (held : GoalHeld (entries_of c) g) (d : SolverCx Handler) (u : Table) (ready : Ready (entries_of d) u) (k : Keeps (entries_of c) (entries_of d))
+      (left : IsLeftByAnswers handler c t PostAnalysis g d u) (us : List GenericArgKind) (us_held : ArgsHeld (entries_of c) us) where
     abbrev bs : List Binding
     bs = content (entries_of d) u.values
-
-    clean-table : HaveNoCanonical (content (entries_of c) t.values)
-    clean-table = subst (λ (x : Table). HaveNoCanonical (content (entries_of c) x.values)) (sym table_is) tt
-
-    same-goal : goal_trees (entries_of d) g ≡ goal_trees (entries_of c) g
-    same-goal = goal-trees-later (entries_of c) (entries_of d) k g held
-
-    has-proof : IsWithoutCanonical (goal_trees (entries_of c) g) → Lists.FactHasProof Fact (handler.goals.Rule w) (handler.goals.coinductive w) (fact_with_values bs (goal_trees (entries_of c) g))
-    has-proof clean =
-        subst (λ z. Lists.FactHasProof Fact (handler.goals.Rule w) (handler.goals.coinductive w) (fact_with_values bs z)) same-goal
-        (values-are-proved (handler.goals.Rule w) (handler.goals.coinductive w) (entries_of d) u g law ready (goal-held-later (entries_of c) (entries_of d) k g held)
-        (λ s h. subst (λ z. Lists.FactHasProof Fact (handler.goals.Rule w) (handler.goals.coinductive w) (fact_under s z)) (sym same-goal) (proved clean-table clean s h)))
 
     given-first : (vs : List GenericArgKind) → ArgsHeld (entries_of c) vs → map (λ v. resolved bs (arg_trees (entries_of d) v)) vs ≡ map (λ x. resolved bs x) (map (arg_trees (entries_of c)) vs)
     given-first [] h = refl
     given-first (v ∷ vs) h = two (ap (resolved bs) (arg-trees-later (entries_of c) (entries_of d) k v h.0)) (given-first vs h.1)
 
-    same-args : trees_at (entries_of d) g.predicate.trait_ref.args.0 ≡ trees_at (entries_of c) g.predicate.trait_ref.args.0
-    same-args = trees-later (entries_of c) (entries_of d) k args_lists g.predicate.trait_ref.args.0 held.predicate
-
-    bound-there : (b : Bool) → some_node is_bound_term (resolved bs (trees_at (entries_of d) g.predicate.trait_ref.args.0)) ≡ b → some_node is_bound_term (resolved bs (goal_trees (entries_of c) g).predicate) ≡ b
-    bound-there b e = bound-below bs _ (trees_at (entries_of c) g.predicate.trait_ref.args.0) b (ap (λ x. some_node is_bound_term (resolved bs x)) (sym same-args) ∙ e)
-
-    pub read-goal : (depth : ℕ) (fs : List Entry) (a : ProveAnswer) → AreReadOff (entries_of d) u (trees_at (entries_of d) g.predicate.trait_ref.args.0) us fs a
-        → IsAnswered handler w depth ks goal (map (arg_trees (entries_of c)) us) fs a
-    read-goal depth fs (Yes values) h = record {
+    values-left : (fs : List Entry) (values : List GenericArgKind) → AreValuesOf (entries_of d) u us fs values
+        → HasLeftValues handler w ks goal (map (arg_trees (entries_of c)) us) (map (arg_trees fs) values)
+    values-left fs values h = record {
       entries = entries_of d;
       table = u;
       ready = ready;
-      are = h.0 ∙ given-first us us_held;
-      unbound = bound-there false h.1;
-      proved = has-proof;
-      solved = proved clean-table;
+      are = h ∙ given-first us us_held;
       left = subst (λ (x : Table). IsLeftByAnswers handler c x PostAnalysis g d u) table_is left;
     }
-    read-goal depth fs Maybe h = inr (inr (entries_of d, u, ready, bound-there true h))
-    read-goal depth fs Unproved h = absurd h
+
+    -- of a goal that is not settled
+    pub read-unsettled : (depth : ℕ) (fs : List Entry) → IsUnsettledGoal handler w depth goal → (a : ProveAnswer)
+        → AreReadOff false (entries_of d) u (trees_at (entries_of d) g.predicate.trait_ref.args.0) us fs a → IsAnswered handler w depth ks goal (map (arg_trees (entries_of c)) us) fs a
+    read-unsettled depth fs unsettled (Yes values) h = absurd (false-true h.1)
+    read-unsettled depth fs unsettled (Maybe values) h = (unsettled, values-left fs values.items h.0)
+    read-unsettled depth fs unsettled Unproved h = absurd h
+
+    -- ---- what is proved
+    module _ (law : Lawful (entries_of d)) (proved : IsProvedBy handler w c t d u g) where
+      clean-table : HaveNoCanonical (content (entries_of c) t.values)
+      clean-table = subst (λ (x : Table). HaveNoCanonical (content (entries_of c) x.values)) (sym table_is) tt
+
+      same-goal : goal_trees (entries_of d) g ≡ goal_trees (entries_of c) g
+      same-goal = goal-trees-later (entries_of c) (entries_of d) k g held
+
+      has-proof : IsWithoutCanonical (goal_trees (entries_of c) g) → Lists.FactHasProof Fact (handler.goals.Rule w) (handler.goals.coinductive w) (fact_with_values bs (goal_trees (entries_of c) g))
+      has-proof clean =
+          subst (λ z. Lists.FactHasProof Fact (handler.goals.Rule w) (handler.goals.coinductive w) (fact_with_values bs z)) same-goal
+          (values-are-proved (handler.goals.Rule w) (handler.goals.coinductive w) (entries_of d) u g law ready (goal-held-later (entries_of c) (entries_of d) k g held)
+          (λ s h. subst (λ z. Lists.FactHasProof Fact (handler.goals.Rule w) (handler.goals.coinductive w) (fact_under s z)) (sym same-goal) (proved clean-table clean s h)))
+
+      same-args : trees_at (entries_of d) g.predicate.trait_ref.args.0 ≡ trees_at (entries_of c) g.predicate.trait_ref.args.0
+      same-args = trees-later (entries_of c) (entries_of d) k args_lists g.predicate.trait_ref.args.0 held.predicate
+
+      bound-there : (b : Bool) → some_node is_bound_term (resolved bs (trees_at (entries_of d) g.predicate.trait_ref.args.0)) ≡ b → some_node is_bound_term (resolved bs (goal_trees (entries_of c) g).predicate) ≡ b
+      bound-there b e = bound-below bs _ (trees_at (entries_of c) g.predicate.trait_ref.args.0) b (ap (λ x. some_node is_bound_term (resolved bs x)) (sym same-args) ∙ e)
+
+      pub read-goal : (depth : ℕ) (fs : List Entry) (a : ProveAnswer) → AreReadOff true (entries_of d) u (trees_at (entries_of d) g.predicate.trait_ref.args.0) us fs a
+          → IsAnswered handler w depth ks goal (map (arg_trees (entries_of c)) us) fs a
+      unfolding values-left
+      read-goal depth fs (Yes values) h =
+          let x = values-left fs values.items h.0 in
+          record { entries = x.entries; table = x.table; ready = x.ready; are = x.are; unbound = bound-there false h.2; proved = has-proof; solved = proved clean-table; left = x.left }
+      read-goal depth fs (Maybe values) h = (inr (inr (entries_of d, u, ready, bound-there true (h.1 refl))), values-left fs values.items h.0)
+      read-goal depth fs Unproved h = absurd h

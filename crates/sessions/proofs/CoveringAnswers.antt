@@ -1,13 +1,16 @@
 -- The values of a yes cover the solutions of a question without where-clauses and parameters, by what its crate sees.
-use Rattle.std.proofs.Common.{◌≡◌, ℕ, ◌+◌, ◌<◌, ◌≤◌, arith, true, false, List, [], ◌∷◌, map, refl, sym, ap, ◌∙◌, subst}
-use Rattle.type_terms.specs.Promised.Answers.{is_open}
+use Rattle.std.specs.Global.{Vec}
+use Rattle.std.specs.Prelude.{IsTrue}
+use Rattle.std.proofs.Common.{◌≡◌, ℕ, ◌+◌, ◌<◌, ◌≤◌, arith, true, false, List, [], ◌∷◌, map, refl, sym, ap, ◌∙◌, subst, inl, inr}
+use Rattle.type_terms.specs.Promised.Answers.{is_open, is_closed}
 use Rattle.type_terms.specs.Promised.Erased.{erased_reference}
-use Rattle.type_terms.specs.Promised.Handles.{arg_trees}
+use Rattle.type_terms.specs.Promised.Handles.{Entry, arg_trees}
+use Rattle.type_terms.specs.declared.kinds.GenericArgKind.{GenericArgKind}
 use Rattle.type_terms.specs.Promised.Label.{Sort, of_type, of_const, of_lifetime, infer, static, of_trait, predicate}
 use Rattle.type_terms.specs.Promised.Proofs.{Every, HasProof}
 use Rattle.type_terms.specs.Promised.Questions.{FitKinds, filled, SolutionBy}
 use Rattle.type_terms.specs.Promised.Trees.{Trees, none, tree, leaf, erase, some_node}
-use Rattle.type_terms.specs.Promised.Worlds.{Reference}
+use Rattle.type_terms.specs.Promised.Worlds.{Reference, World}
 use Rattle.type_terms.proofs.ListBasics.{two}
 use Rattle.infer_table.specs.Applying.{unknowns_of}
 use Rattle.infer_table.specs.Canonical.{GoalTrees, canonical_form}
@@ -34,10 +37,10 @@ use Rattle.text_lowering.specs.Promised.Questions.{variable_kinds, IsQuestion}
 use Rattle.text_lowering.specs.Promised.SeenWorlds.{unbound_reference}
 use Rattle.sessions.specs.Asking.{goal_alone}
 use Rattle.sessions.specs.Promised.OwnValues.{HasNoParameter}
-use Rattle.sessions.specs.Promised.Promises.{view_in}
+use Rattle.sessions.specs.Promised.Promises.{CoverSolutions, view_in}
 use Rattle.sessions.specs.Promised.Subjects.{IsOfText}
 use Rattle.sessions.specs.ProvedQuestions.{YesIsRight}
-use Rattle.sessions.specs.Proving.{HasAnswerValues, goal_asking}
+use Rattle.sessions.specs.Proving.{HasAnswerValues, HasLeftValues, LeaveNothingOut, goal_asking}
 use Rattle.sessions.specs.Sessions.{IsSolvingOf}
 use Rattle.sessions.specs.Tables.{count_of, table_of}
 use Rattle.sessions.specs.Values.{unknowns_from}
@@ -46,7 +49,7 @@ use Rattle.sessions.proofs.CoveringValues.{all-proper, as-many, closed-places, g
 use Rattle.sessions.proofs.Filling.{filled-is, values-fit-kinds}
 use Rattle.sessions.proofs.Given.{given, given-sorted}
 use Rattle.sessions.proofs.OwnTables.{any, IsOwnInTrees, answered-own, beyond, first-own, instance-own, posed, valued}
-use Rattle.sessions.proofs.ProvedQuestions.{clean-own, known, over, own, own-are, proper-args, yes}
+use Rattle.sessions.proofs.ProvedQuestions.{clauses-erased, clean-own, known, over, own, own-are, proper-args, yes}
 use Rattle.sessions.proofs.Unsolved.{IsProvedThere, fine, goal-is, is_place, known-there, searched, shut, solution}
 
 -- with terms for the variables that the first leave open they are the second
@@ -86,6 +89,24 @@ module _ (first u : TableTrees) (S r : Assignment) (own : IsOwnInTrees u) (more 
 
   instances : (xs us : List Trees) → Every (IsOwnUnknown (unknowns_of first)) xs → map (instance S) xs ≡ us → AreInstances (map (λ x. erase (resolved u.bindings x)) xs) us
   instances xs us h e = (kinds, terms, values-fit-kinds (instance r) r sorted (gives r sorted) (static-is r sorted) kinds, all-read xs h ∙ e)
+
+-- ---- variables themselves
+-- they cover any values
+module _ (ks : List Sort) (values : List Trees) (fitting : FitKinds ks values) (closed : Every (λ t. IsTrue (is_closed t)) values) where
+  abbrev bare : TableTrees
+  bare = table_trees [] (table_of ks)
+
+  none-more : (a : ℕ) → 0 + a ≤ a
+  none-more a = omega arith
+
+  as-many-there : (a : ℕ) → a ≤ a
+  as-many-there a = omega arith
+
+  themselves-are : AreInstances (map erase (unknowns_from 0 0 ks)) values
+  themselves-are =
+      instances bare bare (given ks values) (given ks values) (first-own bare refl) (λ k. omega arith) (λ k v h. refl) (given-sorted ks values) (unknowns_from 0 0 ks) values
+      (unknowns-own (unknowns_of bare) ks 0 0 (none-more (count_of of_type ks)) (none-more (count_of of_const ks)) (as-many-there (count_of of_lifetime ks)))
+      (given-read ks values fitting closed)
 
 -- ---- a question
 module _ (d : Declarations) (text : IsOfText d) (n : ℕ) (q : Question) (is : IsQuestion d n q) (s : Solving) (of : IsSolvingOf d q.asker s) (alone : HasNoParameter (erased_reference q.asked))
@@ -183,7 +204,7 @@ module _ (d : Declarations) (text : IsOfText d) (n : ℕ) (q : Question) (is : I
   unknowns-known = unknowns-own (unknowns_of first) ks 0 0 (at-most (count_of of_type ks)) (at-most (count_of of_const ks)) (itself-most (count_of of_lifetime ks))
 
   -- ---- the values of the last one
-  module _ (bare : map erased_reference q.clauses ≡ []) (xs : List Trees) (h : HasAnswerValues solver_by_view s ks (goal_asking s.view q) (own_unknowns q) xs) where
+  module _ (bare : map erased_reference q.clauses ≡ []) (xs : List Trees) (h : HasLeftValues solver_by_view s ks (goal_asking s.view q) (own_unknowns q) xs) where
     abbrev last : TableTrees
     last = table_trees h.entries h.table
 
@@ -199,8 +220,44 @@ module _ (d : Declarations) (text : IsOfText d) (n : ℕ) (q : Question) (is : I
         (instances first last S x.extended x.own_table x.more x.continues x.solves (unknowns_from 0 0 ks) sol.values unknowns-known (given-read ks sol.values sol.fitting sol.closed))
 
 -- ---- the answer
+-- the values of a yes are such values
+of-yes : (s : Solving) (js : List Sort) (goal : GoalTrees) (us xs : List Trees) → HasAnswerValues solver_by_view s js goal us xs → HasLeftValues solver_by_view s js goal us xs
+of-yes s js goal us xs h = record { entries = h.entries; table = h.table; ready = h.ready; are = h.are; left = h.left }
+
+-- values that cover the solutions without where-clauses cover those under none
+under-none : (V : World) (ks : List Sort) (r : Reference) (ts : List Trees) (E : List Reference) → E ≡ [] → CoverSolutions V ks [] r ts → CoverSolutions V ks E r ts
+under-none V ks r ts E e h = subst (λ F. CoverSolutions V ks F r ts) (sym e) h
+
+module _ (d : Declarations) (text : IsOfText d) (n : ℕ) (q : Question) (is : IsQuestion d n q) (s : Solving) (of : IsSolvingOf d q.asker s) (es : List Entry) (values : Vec GenericArgKind) where
+  abbrev E : List Reference
+  E = map erased_reference q.clauses
+
+  abbrev answered : List Trees
+  answered = map (λ v. erase (arg_trees es v)) values.items
+
+  abbrev Cover : List Trees → Type 0
+  Cover ts = CoverSolutions (view_in d q.asker) (variable_kinds q) E (erased_reference q.asked) ts
+
+  abbrev AreLeft : Type 0
+  AreLeft = HasLeftValues solver_by_view s (variable_kinds q) (goal_asking s.view q) (own_unknowns q) (map (arg_trees es) values.items)
+
+  -- without where-clauses
+  cover-bare : E ≡ [] → HasNoParameter (erased_reference q.asked) → AreLeft → Cover answered
+  cover-bare bare alone h =
+      under-none (view_in d q.asker) (variable_kinds q) (erased_reference q.asked) answered E bare
+      (λ sol. subst (λ ts. AreInstances ts sol.values) (over (arg_trees es) erase values.items) (covered d text n q is s of alone sol bare (map (arg_trees es) values.items) h))
+
+  -- those of a maybe
+  pub maybe-covers : AreLeft → LeaveNothingOut q es values.items → HasNoParameter (erased_reference q.asked) → Cover answered
+  maybe-covers h (inl e) alone sol = cover-bare (sym (clauses-erased q.clauses) ∙ ap (map erased_reference) e) alone h sol
+  maybe-covers h (inr are) alone sol =
+      subst (λ ts. AreInstances ts sol.values)
+      (ap (map erase) (sym (are ∙ own-are 0 0 q.variables)) ∙ over (arg_trees es) erase values.items)
+      (themselves-are (variable_kinds q) sol.values sol.fitting sol.closed)
+
+  pub yes-covers : HasAnswerValues solver_by_view s (variable_kinds q) (goal_asking s.view q) (own_unknowns q) (map (arg_trees es) values.items)
+      → E ≡ [] → HasNoParameter (erased_reference q.asked) → Cover answered
+  yes-covers h bare alone = cover-bare bare alone (of-yes s (variable_kinds q) (goal_asking s.view q) (own_unknowns q) (map (arg_trees es) values.items) h)
+
 pub yes-is-right : YesIsRight
-yes-is-right d text n q is s of limit depth es values h =
-    yes d text n q is s of limit depth es values h
-    (λ bare alone sol.
-    subst (λ ts. AreInstances ts sol.values) (over (arg_trees es) erase values.items) (covered d text n q is s of alone sol bare (map (arg_trees es) values.items) h.0))
+yes-is-right d text n q is s of limit depth es values h = yes d text n q is s of limit depth es values h (λ bare alone. yes-covers d text n q is s of es values h.0 bare alone)

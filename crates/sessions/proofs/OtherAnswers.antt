@@ -1,5 +1,5 @@
 -- Of a decided question the solver says neither `Unproved` nor `Maybe` wrongly.
-use Rattle.std.proofs.Common.{◌≡◌, ℕ, IsTrue, true, false, not, ◌||◌, List, [], ◌∷◌, map, Option, Some, None, inl, inr, refl, sym, ◌∙◌, ap}
+use Rattle.std.proofs.Common.{◌≡◌, ℕ, IsTrue, true, false, not, ◌||◌, List, [], ◌∷◌, map, Option, Some, None, inl, inr, refl, sym, ◌∙◌, ap, subst}
 use Rattle.type_terms.specs.Promised.Answers.{SingleWay, is_variable}
 use Rattle.type_terms.specs.Promised.Label.{Label, Sort, of_type, of_const, of_lifetime, infer, canonical, bound}
 use Rattle.type_terms.specs.Promised.Proofs.{HasProof}
@@ -39,16 +39,18 @@ use Rattle.sessions.specs.Goals.{goal_of, is_fixed, are_fixed}
 use Rattle.sessions.specs.Promised.Promises.{EndsWithin, HasFewRules, view_in}
 use Rattle.sessions.specs.Foreign.{is_unknown_term}
 use Rattle.sessions.proofs.Unsolved.{unsolved}
-use Rattle.sessions.specs.Proving.{is_bound_term, goal_asking, IsAnsweredBySolver, IsRefusedGoal, IsUnsettledGoal}
-use Rattle.sessions.specs.declared.answers.ProveAnswer.TheVariants.{Maybe}
+use Rattle.sessions.specs.Proving.{is_bound_term, goal_asking, speak_of_own, HasUnknowns, IsNotSettled, IsRefusedGoal, IsUnsettledGoal}
 use Rattle.type_terms.specs.Promised.Handles.{Entry}
+use Rattle.type_terms.specs.Promised.Questions.{SolutionBy}
 use Rattle.sessions.specs.Questions.{IsFormedAsWritten}
 use Rattle.sessions.specs.Sessions.{IsSolvingOf}
 use Rattle.sessions.specs.Promised.Subjects.{IsOfText}
 use Rattle.sessions.specs.Tables.{table_of}
 use Rattle.sessions.proofs.BareAnswers.{bare-is-left}
+use Rattle.sessions.proofs.CoveringAnswers.{maybe-covers}
 use Rattle.sessions.proofs.DecidedAnswers.{decided-are-answered, short-are-answered, formed-so, as-asked, as-written}
 use Rattle.sessions.proofs.OpaqueTerms.{node}
+use Rattle.sessions.proofs.ProvedQuestions.{speaks}
 use Rattle.sessions.proofs.ExactRefusals.{not-so}
 
 -- ---- terms in which nothing may get a value but lifetimes, which get none
@@ -220,11 +222,11 @@ module _ (d : Declarations) (text : IsOfText d) (n : ℕ) (q : Question) (is : I
   known : some_node is_unknown_term r.args ≡ false
   known = none-unknown r.args (made-labels is_fixed terms r.args (asked-fixed d q.asker s of E r formed))
 
-  never-maybe : SingleWay depth seen_by (map erased_reference q.clauses) (erased_reference q.asked) → (es : List Entry) → IsAnsweredBySolver s depth q es Maybe → ⊥
+  never-maybe : SingleWay depth seen_by (map erased_reference q.clauses) (erased_reference q.asked) → (es : List Entry) → IsNotSettled s depth q es → ⊥
   never-maybe single es (inl h) = never-unsettled d text q.asker s of E r formed ks depth (there (λ F x. SingleWay depth seen_by F x) single) h
   never-maybe single es (inr h) = false-true (sym known ∙ h.unknowns)
 
-  maybe-exactly : EndsWithin depth seen_by (map erased_reference q.clauses) (erased_reference q.asked) → (es : List Entry) → IsAnsweredBySolver s depth q es Maybe
+  maybe-exactly : EndsWithin depth seen_by (map erased_reference q.clauses) (erased_reference q.asked) → (es : List Entry) → IsNotSettled s depth q es
       → HasProof seen_by (map erased_reference q.clauses) (erased_reference q.asked) × (HasFewRules depth seen_by (map erased_reference q.clauses) (erased_reference q.asked) → ⊥)
   maybe-exactly short es (inl h) =
       let x = unsettled-exactly d text q.asker s of E r formed ks depth (there (λ F y. EndsWithin depth seen_by F y) short) h in
@@ -237,8 +239,14 @@ other-answers-are-right d text n q is s of depth es = (
     λ decided proof. unproved d text n q is s of depth decided.0 decided.1 h proof,
     tt,
     tt,
-    λ bare alone sol. unsolved d text n q is s of alone bare depth h sol,
+    λ bare alone sol. unsolved d text n q is s of alone bare depth h (subst (λ E. SolutionBy (HasProof (view_in d q.asker) E) (variable_kinds q) (erased_reference q.asked)) bare sol),
     λ closed short proof. unproved-exactly d text n q is s of depth closed short h proof,
   ),
-  λ h. (λ decided. never-maybe d text n q is s of depth decided.0 decided.1 es h, tt, tt, tt, λ closed short. maybe-exactly d text n q is s of depth closed short es h),
+  λ values h. (
+    λ decided. never-maybe d text n q is s of depth decided.0 decided.1 es h.0,
+    speaks d text n q is s of es values (subst (λ (x : Solving). HasUnknowns q → speak_of_own x q es values.items ≡ true) of.is h.2),
+    tt,
+    λ alone. maybe-covers d text n q is s of es values h.1 h.3 alone,
+    λ closed short. maybe-exactly d text n q is s of depth closed short es h.0,
+  ),
 )

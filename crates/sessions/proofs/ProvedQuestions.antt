@@ -56,7 +56,7 @@ use Rattle.sessions.specs.Proved.{fact_with_values}
 use Rattle.sessions.specs.Promised.Given.{answer_in}
 use Rattle.sessions.specs.Promised.Promises.{AreForced, CoversSolutions, IsProved, view_in}
 use Rattle.sessions.specs.Sessions.{IsSolvingOf}
-use Rattle.sessions.specs.Promised.OwnValues.{is_unknown, are_own, SpeaksOfOwn}
+use Rattle.sessions.specs.Promised.OwnValues.{is_unknown, are_own, SpeakOfOwn}
 use Rattle.sessions.specs.Foreign.{is_unknown_term}
 use Rattle.sessions.specs.Proving.{is_bound_term, HasUnknowns, speak_of_own, IsAnsweredBySolver, IsGoalAnswered}
 use Rattle.sessions.specs.Questions.{AreFixedReferences}
@@ -449,8 +449,8 @@ module _ (d : Declarations) (text : IsOfText d) (n : ℕ) (q : Question) (is : I
   references-same = ap (λ z. reference q.asked.trait z ∷ map erased_reference E) (plain-erased q.asked.args) ∙ ap (λ zs. erased_reference q.asked ∷ zs) (clauses-erased q.clauses)
 
   -- the values speak of what the view declares, of unknowns and of the question's parameters, also without lifetimes
-  speaks : (es : List Entry) (values : Vec GenericArgKind) → (HasUnknowns q → speak_of_own (solving_of of.entries of.declarations) q es values.items ≡ true)
-      → SpeaksOfOwn U (map erased_reference q.clauses) (erased_reference q.asked) (answer_in es (Yes values))
+  pub speaks : (es : List Entry) (values : Vec GenericArgKind) → (HasUnknowns q → speak_of_own (solving_of of.entries of.declarations) q es values.items ≡ true)
+      → SpeakOfOwn U (map erased_reference q.clauses) (erased_reference q.asked) (map (λ v. erase (arg_trees es v)) values.items)
   speaks es values own u =
       let xs = map (arg_trees es) values.items in
       ap (are_own U (erased_reference q.asked ∷ map erased_reference q.clauses)) (sym (over (arg_trees es) erase values.items))

@@ -54,7 +54,7 @@ module _ (d : Declarations) (c depth : ℕ) (cx : SolverCx Solver) (graph : Sear
     right-within : (a : ProveAnswer) → IsTold es q a → IsProved graph.root_depth d q (answer_in es a)
     right-within (Yes values) h = yes d is.text n q asks.asks.question (solved cx) (solves-for q asks.asks.asker) graph.root_depth graph.root_depth es values h
     right-within Unproved h = (others d is.text n q asks.asks.question (solved cx) (solves-for q asks.asks.asker) graph.root_depth es).0 h
-    right-within Maybe h = (others d is.text n q asks.asks.question (solved cx) (solves-for q asks.asks.asker) graph.root_depth es).1 h
+    right-within (Maybe values) h = (others d is.text n q asks.asks.question (solved cx) (solves-for q asks.asks.asker) graph.root_depth es).1 values h
 
     pub answered-rightly : (r : Result ProveAnswer Fault) → IfOk r (λ a. (p : Question) → IsQuestion d n p → IsTold es p a) → IfOk r (λ a. IsProved depth d q (answer_in es a))
     answered-rightly r h = over-ok r (λ a told. subst (λ k. IsProved k d q (answer_in es a)) is.rest.depth (right-within a (told q asks.asks.question))) h

@@ -162,7 +162,7 @@ module _ (d : Declarations) (text : IsOfText d) (c : ℕ) (items : List Entry) (
               subst (λ x. HasProof U own x) (stays-so (map (λ v. erase (arg_trees t.entries v)) values.items))
               (yes-proves d text c items decls seen [] E r (clauses-formed d text c items decls seen i stands) clean (fixed-proper r.args fixed) asked asked-closed depth t.entries values h depth).1
           by IsUnproved e h = absurd cc
-          by IsMaybe e h = absurd cc
+          by (IsMaybe values) e h = absurd cc
 
       -- and what it does not prove is not determinate
       told-unproved : SolverTells s depth F r Unproved → IsDeterminate depth U own (erased_reference r) → ⊥
@@ -171,7 +171,7 @@ module _ (d : Declarations) (text : IsOfText d) (c : ℕ) (items : List Entry) (
           by : (a : ProveAnswer) → outcome_of a ≡ Unproved → IsGoalAnswered s depth [] (goal_of F r) [] t.entries a → ⊥
           by (Yes values) e h = absurd cc
           by IsUnproved e h = refused-unproved d text c s of E r (super-as-written d text c items decls seen i stands r among) [] depth x.0.1 h x.1
-          by IsMaybe e h = absurd cc
+          by (IsMaybe values) e h = absurd cc
 
       told-maybe : SolverTells s depth F r Maybe → IsDeterminate depth U own (erased_reference r) → ⊥
       told-maybe t x = by t.answer t.outcome t.answered
@@ -179,7 +179,7 @@ module _ (d : Declarations) (text : IsOfText d) (c : ℕ) (items : List Entry) (
           by : (a : ProveAnswer) → outcome_of a ≡ Maybe → IsGoalAnswered s depth [] (goal_of F r) [] t.entries a → ⊥
           by (Yes values) e h = absurd cc
           by IsUnproved e h = absurd cc
-          by IsMaybe e h = never-unsettled d text c s of E r (super-as-written d text c items decls seen i stands r among) [] depth x.0.1 h
+          by (IsMaybe values) e h = never-unsettled d text c s of E r (super-as-written d text c items decls seen i stands r among) [] depth x.0.1 h.0
 
     -- ---- all of them
     well : IsDeclaredWell V

@@ -44,6 +44,7 @@ use Rattle.goal_frames.specs.Meanings.{HandlerMeaning}
 use Rattle.candidate_assembly.specs.SolverMeaning.{solver_by_view}
 use Rattle.sessions.specs.Foreign.{is_unknown_term, are_own_terms}
 use Rattle.sessions.specs.Goals.{goal_of}
+use Rattle.sessions.specs.Promised.Given.{values_of_answer}
 use Rattle.sessions.specs.Proved.{fact_with_values}
 use Rattle.sessions.specs.Tables.{table_of}
 use Rattle.sessions.specs.declared.answers.ProveAnswer.{ProveAnswer}
@@ -58,12 +59,18 @@ is_bound_term (canonical of_type i) = true
 is_bound_term (canonical of_const i) = true
 is_bound_term l = false
 
--- Yes with the values that the table gives the variables, or maybe, if something bound occurs in the arguments with their values.
-abbrev pub AreReadOff : List Entry → Table → Trees → List GenericArgKind → List Entry → ProveAnswer → Type 0
-AreReadOff es t args us fs (Yes values) =
-    (map (arg_trees fs) values.items ≡ map (λ u. resolved (content es t.values) (arg_trees es u)) us) × (some_node is_bound_term (resolved (content es t.values) args) ≡ false)
-AreReadOff es t args us fs Maybe = some_node is_bound_term (resolved (content es t.values) args) ≡ true
-AreReadOff es t args us fs Unproved = ⊥
+-- They are the values that the table gives the variables.
+abbrev pub AreValuesOf : List Entry → Table → List GenericArgKind → List Entry → List GenericArgKind → Type 0
+AreValuesOf es t us fs values = map (arg_trees fs) values ≡ map (λ u. resolved (content es t.values) (arg_trees es u)) us
+
+-- What the table of a goal gives the variables: as yes, if the goal is proved and nothing bound occurs in its arguments with their values, and
+-- otherwise as maybe.
+abbrev pub AreReadOff : Bool → List Entry → Table → Trees → List GenericArgKind → List Entry → ProveAnswer → Type 0
+AreReadOff proved es t args us fs (Yes values) =
+    AreValuesOf es t us fs values.items × (proved ≡ true) × (some_node is_bound_term (resolved (content es t.values) args) ≡ false)
+AreReadOff proved es t args us fs (Maybe values) =
+    AreValuesOf es t us fs values.items × (proved ≡ true → some_node is_bound_term (resolved (content es t.values) args) ≡ true)
+AreReadOff proved es t args us fs Unproved = ⊥
 
 -- ---- the goal
 -- It is evaluated outside coherence.
@@ -86,6 +93,14 @@ module _ {Handler : Type 0} (handler : HandlerMeaning Handler) where
     pub unbound : some_node is_bound_term (resolved (content entries table.values) g.predicate) ≡ false
     pub proved : IsWithoutCanonical g → Lists.FactHasProof Fact (handler.goals.Rule w) (handler.goals.coinductive w) (fact_with_values (content entries table.values) g)
     pub solved : IsWithoutCanonical g → (s : Assignment) → Solves s (content entries table.values) → Lists.FactHasProof Fact (handler.goals.Rule w) (handler.goals.coinductive w) (fact_under s g)
+    pub left : AnswersLeave handler PostAnalysis w g (table_trees [] (table_of ks)) (table_trees entries table)
+
+  -- Answers to the goal leave some table of one with variables of these kinds, and it gives the variables these values.
+  pub record HasLeftValues (w : handler.goals.World) (ks : List Sort) (g : GoalTrees) (us values : List Trees) : Type 0 where
+    pub entries : List Entry
+    pub table : Table
+    pub ready : Ready entries table
+    pub are : values ≡ map (λ u. resolved (content entries table.values) u) us
     pub left : AnswersLeave handler PostAnalysis w g (table_trees [] (table_of ks)) (table_trees entries table)
 
   -- Whatever its variables stand for, the goal has no proof in any of the handler's worlds, if its variables are of these kinds.
@@ -114,7 +129,7 @@ module _ {Handler : Type 0} (handler : HandlerMeaning Handler) where
   abbrev pub IsAnswered : handler.goals.World → ℕ → List Sort → GoalTrees → List Trees → List Entry → ProveAnswer → Type 0
   IsAnswered w depth ks g us es (Yes values) = HasAnswerValues w ks g us (map (arg_trees es) values.items)
   IsAnswered w depth ks g us es Unproved = IsRefusedGoal w depth ks g
-  IsAnswered w depth ks g us es Maybe = IsUnsettledGoal w depth g
+  IsAnswered w depth ks g us es (Maybe values) = IsUnsettledGoal w depth g × HasLeftValues w ks g us (map (arg_trees es) values.items)
 
 -- ---- the solver's
 abbrev pub SolverIsReady : SolverCx Solver → Type 0
@@ -148,15 +163,27 @@ HasUnknowns q = some_node is_unknown_term (unbound_reference q.asked).args ≡ t
 abbrev pub speak_of_own : Solving → Question → List Entry → List GenericArgKind → Bool
 speak_of_own s q es values = are_own_terms s.view (unbound_reference q.asked ∷ unbound_references q.clauses) (map (arg_trees es) values)
 
--- The search said yes, with a value that speaks of something else.
+-- The search gave an answer with a value that speaks of something else.
 pub record HasForeignValues (s : Solving) (depth : ℕ) (q : Question) (es : List Entry) : Type 0 where
-  pub values : Vec GenericArgKind
-  pub answered : IsAnsweredInSearch s depth q es (Yes values)
+  pub answer : ProveAnswer
+  pub answered : IsAnsweredInSearch s depth q es answer
   pub unknowns : HasUnknowns q
-  pub foreign : speak_of_own s q es values.items ≡ false
+  pub foreign : speak_of_own s q es (values_of_answer answer) ≡ false
 
--- What is answered to a question: what the search says, but that a yes with such a value is handed on as maybe.
+-- The search does not settle the question, or gives it such a value.
+abbrev pub IsNotSettled : Solving → ℕ → Question → List Entry → Type 0
+IsNotSettled s depth q es = IsUnsettledGoal solver_by_view s depth (goal_asking s.view q) ⊎ HasForeignValues s depth q es
+
+-- The values are those of a question without where-clauses, or the variables themselves.
+abbrev pub LeaveNothingOut : Question → List Entry → List GenericArgKind → Type 0
+LeaveNothingOut q es values = (unbound_references q.clauses ≡ []) ⊎ (map (arg_trees es) values ≡ own_unknowns q)
+
+-- What is answered to a question: what the search says, but that with such a value it is maybe, and each variable stands for itself.
 abbrev pub IsAnsweredBySolver : Solving → ℕ → Question → List Entry → ProveAnswer → Type 0
 IsAnsweredBySolver s depth q es (Yes values) = IsAnsweredInSearch s depth q es (Yes values) × (HasUnknowns q → speak_of_own s q es values.items ≡ true)
 IsAnsweredBySolver s depth q es Unproved = IsAnsweredInSearch s depth q es Unproved
-IsAnsweredBySolver s depth q es Maybe = IsAnsweredInSearch s depth q es Maybe ⊎ HasForeignValues s depth q es
+IsAnsweredBySolver s depth q es (Maybe values) =
+    IsNotSettled s depth q es
+    × HasLeftValues solver_by_view s (variable_kinds q) (goal_asking s.view q) (own_unknowns q) (map (arg_trees es) values.items)
+    × (HasUnknowns q → speak_of_own s q es values.items ≡ true)
+    × LeaveNothingOut q es values.items

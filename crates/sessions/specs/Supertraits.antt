@@ -66,7 +66,7 @@ AreOfOwn V c k es (Some goals) = AreOfImpl V c k es goals
 abbrev pub outcome_of : ProveAnswer → Outcome
 outcome_of (Yes values) = Proved
 outcome_of IsUnproved = Unproved
-outcome_of IsMaybe = Maybe
+outcome_of (IsMaybe values) = Maybe
 
 -- The solver's answer to a trait reference without variables, under just these where-clauses.
 pub record SolverTells (s : Solving) (depth : ℕ) (F : List Reference) (r : Reference) (o : Outcome) : Type 0 where

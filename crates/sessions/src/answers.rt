@@ -1,5 +1,8 @@
 //! What a session answers: verdicts, and answers of queries and checks.
 
+ghost use Rattle.std.specs.Prelude.{◌≡◌};
+ghost use Rattle.sessions.specs.Promised.Given.{values_of_answer};
+
 use orphan_check::errors::OrphanCheckErr;
 use type_terms::ImplId;
 use type_terms::kinds::{GenericArgKind, Ty};
@@ -20,10 +23,24 @@ pub enum Verdict {
 pub enum ProveAnswer {
     /// The bound has a proof with these values for the query's variables, in their order. A variable without a value stands for itself.
     Yes(Vec<GenericArgKind>),
-    /// The search does not know. An unambiguous query never gets this answer.
-    Maybe,
+    /// The search does not know. These values are what it knows of the query's variables, in their order. Without where-clauses and
+    /// parameters each solution is an instance of them. An unambiguous query never gets this answer.
+    Maybe(Vec<GenericArgKind>),
     /// The search found no proof. If the query is unambiguous, there is none.
     Unproved,
+}
+
+impl ProveAnswer {
+    /// The values of the query's variables, in their order.
+    pub fn values(&self) -> &[GenericArgKind]
+        ensures { result.now ≡ values_of_answer self.now }
+    {
+        match self {
+            ProveAnswer::Yes(values) => values,
+            ProveAnswer::Maybe(values) => values,
+            ProveAnswer::Unproved => &[],
+        }
+    }
 }
 
 /// The answer of a `refute` query.

@@ -1,8 +1,8 @@
 //! Whether the values of an answer speak of what their question may speak of.
 
-ghost use Rattle.std.specs.Prelude.{◌≡◌, ◌||◌, true, not, map};
+ghost use Rattle.std.specs.Prelude.{◌≡◌, ◌||◌, ◌&&◌, true, false, not, map, IfOk, List};
 ghost use Rattle.type_terms.specs.Promised.Answers.{is_undeclared};
-ghost use Rattle.type_terms.specs.Promised.Handles.{ArgHeld, ArgsHeld, arg_trees};
+ghost use Rattle.type_terms.specs.Promised.Handles.{ArgHeld, ArgsHeld, arg_trees, Entry};
 ghost use Rattle.type_terms.specs.Promised.Label.{of_type, of_const, placeholder};
 ghost use Rattle.type_terms.specs.Promised.Handles.{Has, types, consts, trees_at};
 ghost use Rattle.type_terms.specs.Terms.{args_lists};
@@ -12,12 +12,13 @@ ghost use Rattle.declarations.specs.Applied.{TraitRefsHeld, references_in};
 ghost use Rattle.declarations.specs.Held.{ReferenceHeld};
 ghost use Rattle.declarations.specs.Items.{reference_in, written};
 ghost use Rattle.sessions.specs.Promised.OwnValues.{is_same_param, occurs_among};
-ghost use Rattle.sessions.specs.Foreign.{IsOwnAnswer, are_own_terms, is_foreign_term, is_unknown_term, label_of, question_in, strays};
-ghost use Rattle.sessions.specs.Promised.Given.{AnswerValuesHeld};
+ghost use Rattle.sessions.specs.Foreign.{HasNoPreference, HasPreference, IsMaybeWith, IsOwnAnswer, are_own_terms, is_foreign_term, is_unknown_term, label_of, question_in, strays};
+ghost use Rattle.sessions.specs.Promised.Given.{AnswerValuesHeld, values_of_answer};
 
 use crate::answers::ProveAnswer;
 use candidate_assembly::visitors::{bounds_are_declared, break_if, struct_is_declared};
 use declarations::declarations::Declarations;
+use std::alloc::{AllocError, Global};
 use std::ops::ControlFlow;
 use term_folds::predicate::TraitRef;
 use text_lowering::LoweredQuestion;
@@ -378,33 +379,73 @@ fn values_are_own(
     true
 }
 
-/// The answer to a question; but `Maybe` in place of a yes with a value that names what the crate does not see, or that has another open
-/// place than unknowns and the question's parameters. Such a yes the rules of the crate do not give.
+/// Whether the values can leave solutions out. Of two where-clauses the search prefers one, so those of a `Maybe` under where-clauses can.
+fn has_preference(answer: &ProveAnswer, clauses: &[TraitRef]) -> bool
+    ensures preferred { (es : List Entry) → result ≡ true → HasPreference (references_in es clauses.now) answer.now }
+    ensures none { (es : List Entry) → result ≡ false → HasNoPreference (references_in es clauses.now) answer.now }
+{
+    match answer {
+        ProveAnswer::Maybe(_) => !clauses.is_empty(),
+        ProveAnswer::Yes(_) | ProveAnswer::Unproved => false,
+    }
+}
+
+/// Whether a value speaks of something else than the question does, which has unknowns.
+fn is_foreign(
+    cx: &Interner,
+    declarations: &Declarations,
+    asked: Asked<'_>,
+    answer: &ProveAnswer,
+) -> bool
+    requires answer { AnswerValuesHeld cx.now.entries answer.now }
+    requires reference { ReferenceHeld cx.now.entries asked.reference }
+    requires clauses { TraitRefsHeld cx.now.entries asked.clauses.now }
+    ensures { let es = cx.now.entries in let rs = question_in es asked.entry.reference asked.entry.clauses.now in
+        result ≡ some_node is_unknown_term (reference_in es asked.entry.reference).args
+        && not (are_own_terms (written es declarations.now) rs (map (arg_trees es) (values_of_answer answer.now))) }
+{
+    asked.has_unknowns(cx) && !values_are_own(cx, declarations, asked, answer.values())
+}
+
+/// `Maybe`, and each variable of the question stands for itself. Fails only if memory is refused.
+fn variables_themselves(
+    alloc: Global,
+    question: &LoweredQuestion,
+) -> Result<ProveAnswer, AllocError>
+    ensures { IfOk result (IsMaybeWith question.now.unknowns.items) }
+{
+    let unknowns = Vec::from_slice(alloc, &question.unknowns)?;
+    Ok(ProveAnswer::Maybe(unknowns))
+}
+
+/// The answer to a question as it is handed on. A value that names what the crate does not see, or that has another open place than
+/// unknowns and the question's parameters, the rules of the crate do not give. So with such a value the answer is `Maybe`, and each variable
+/// stands for itself. So it does in a `Maybe` under where-clauses.
+///
+/// Fails only if memory is refused.
 pub(crate) fn own_answer(
+    alloc: Global,
     cx: &Interner,
     declarations: &Declarations,
     question: &LoweredQuestion,
     answer: ProveAnswer,
-) -> ProveAnswer
+) -> Result<ProveAnswer, AllocError>
     requires answer { AnswerValuesHeld cx.now.entries answer }
     requires reference { ReferenceHeld cx.now.entries question.now.asked }
     requires clauses { TraitRefsHeld cx.now.entries question.now.clauses.items }
-    ensures { let es = cx.now.entries in
-        IsOwnAnswer (written es declarations.now) (reference_in es question.now.asked) (references_in es question.now.clauses.items) es answer result }
+    ensures { let es = cx.now.entries in IfOk result
+        (IsOwnAnswer (written es declarations.now) (reference_in es question.now.asked) (references_in es question.now.clauses.items)
+        question.now.unknowns.items es answer) }
 {
     let asked = Asked {
         reference: question.asked,
         clauses: &question.clauses,
     };
-    match answer {
-        ProveAnswer::Yes(values) => {
-            if !asked.has_unknowns(cx) || values_are_own(cx, declarations, asked, &values) {
-                ProveAnswer::Yes(values)
-            } else {
-                ProveAnswer::Maybe
-            }
-        }
-        ProveAnswer::Maybe => ProveAnswer::Maybe,
-        ProveAnswer::Unproved => ProveAnswer::Unproved,
+    if has_preference(&answer, asked.clauses) {
+        return variables_themselves(alloc, question);
     }
+    if is_foreign(cx, declarations, asked, &answer) {
+        return variables_themselves(alloc, question);
+    }
+    Ok(answer)
 }

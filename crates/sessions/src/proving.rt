@@ -74,13 +74,14 @@ fn has_bound_terms(cx: &Interner, args: GenericArgs) -> bool
         || args.has_type_flags(cx, TypeFlags::HAS_CT_BOUND)
 }
 
-/// The answer for a trait reference that was proved: the values that the table gives the variables.
+/// The answer for a trait reference, which was proved or not, with the values that the table gives the variables.
 ///
 /// Values in which a type or a constant is bound prove nothing, so then the answer is `Maybe`.
 fn read_values(
     alloc: Global,
     cx: &mut Interner,
     table: &InferCtxt,
+    is_proved: bool,
     asked: TraitRef,
     unknowns: &[GenericArgKind],
 ) -> Result<ProveAnswer, Fault>
@@ -89,20 +90,24 @@ fn read_values(
     requires unknowns { ArgsHeld cx.old.entries unknowns.now }
     ensures terms { GrewOrFull cx.old cx.new result }
     ensures held { IfOk result (AnswerValuesHeld cx.new.entries) }
-    ensures read { IfOk result (AreReadOff cx.old.entries table.now (trees_at cx.old.entries asked.args.0) unknowns.now cx.new.entries) }
+    ensures read { IfOk result
+        (AreReadOff is_proved cx.old.entries table.now (trees_at cx.old.entries asked.args.0) unknowns.now cx.new.entries) }
 {
-    let proved = table.eager_resolve_vars(cx, asked.args)?;
-    if has_bound_terms(cx, proved) {
-        return Ok(ProveAnswer::Maybe);
-    }
+    let resolved = table.eager_resolve_vars(cx, asked.args)?;
+    let has_bound = has_bound_terms(cx, resolved);
     let values = values_of(alloc, cx, table, unknowns)?;
-    Ok(ProveAnswer::Yes(values))
+    if is_proved && !has_bound {
+        Ok(ProveAnswer::Yes(values))
+    } else {
+        Ok(ProveAnswer::Maybe(values))
+    }
 }
 
 /// The same over the interner of a context.
 fn read_values_in<H: GoalHandler>(
     cx: &mut SolverCx<H>,
     table: &InferCtxt,
+    is_proved: bool,
     asked: TraitRef,
     unknowns: &[GenericArgKind],
 ) -> Result<ProveAnswer, Fault>
@@ -113,11 +118,18 @@ fn read_values_in<H: GoalHandler>(
     ensures advances { Advances H.meaning.IsReady cx.old cx.new }
     ensures held { IfOk result (AnswerValuesHeld cx.new.interner.entries) }
     ensures read { IfOk result
-        (AreReadOff cx.old.interner.entries table.now (trees_at cx.old.interner.entries asked.args.0) unknowns.now cx.new.interner.entries) }
+        (AreReadOff is_proved cx.old.interner.entries table.now (trees_at cx.old.interner.entries asked.args.0) unknowns.now cx.new.interner.entries) }
     ensures full { IfErr result (FullAtLimit cx.new.interner) }
 {
     rest_laws::<H>();
-    let read = read_values(cx.alloc, &mut cx.interner, table, asked, unknowns);
+    let read = read_values(
+        cx.alloc,
+        &mut cx.interner,
+        table,
+        is_proved,
+        asked,
+        unknowns,
+    );
     cx.interner.lawful();
     read
 }
@@ -172,11 +184,18 @@ fn ask_for<H: GoalHandler>(
         Outcome::Proved => read_values_in(
             &mut search.cx,
             table,
+            true,
             goal.predicate.trait_ref,
             unknowns,
         ),
         Outcome::Unproved => Ok(ProveAnswer::Unproved),
-        Outcome::Maybe => Ok(ProveAnswer::Maybe),
+        Outcome::Maybe => read_values_in(
+            &mut search.cx,
+            table,
+            false,
+            goal.predicate.trait_ref,
+            unknowns,
+        ),
     }
 }
 
@@ -301,10 +320,12 @@ pub(crate) fn prove_question(
     rest_laws::<Solver>();
     let lowered = lower_in(&mut search.cx, workspace, number)?;
     let answer = prove_lowered(search, &lowered)?;
-    Ok(own_answer(
+    let own = own_answer(
+        search.cx.alloc,
         &search.cx.interner,
         &search.cx.handler.declarations,
         &lowered,
         answer,
-    ))
+    )?;
+    Ok(own)
 }

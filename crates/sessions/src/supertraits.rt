@@ -138,7 +138,7 @@ fn ask_under(
     match prove_under(search, clauses, asked, &[])? {
         ProveAnswer::Yes(_) => Ok(Outcome::Proved),
         ProveAnswer::Unproved => Ok(Outcome::Unproved),
-        ProveAnswer::Maybe => Ok(Outcome::Maybe),
+        ProveAnswer::Maybe(_) => Ok(Outcome::Maybe),
     }
 }
 

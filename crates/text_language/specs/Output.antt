@@ -135,8 +135,8 @@ pub data Answer : Type 0 where
   breaking : (name : List ℕ) (impl : ℕ) → Answer
   held : (name : List ℕ) → Answer
   missing undecided : (name : List ℕ) (impl clause : ℕ) → Answer
-  yes : (question : ℕ) (values : List ValueText) → Answer
-  maybe unproved no unrefuted : (question : ℕ) → Answer
+  yes maybe : (question : ℕ) (values : List ValueText) → Answer
+  unproved no unrefuted : (question : ℕ) → Answer
 
 abbrev pub crate_start : List ℕ → List ℕ
 crate_start n = codes "crate " ++ n ++ codes ": "
@@ -180,7 +180,7 @@ answer_text (held n) = supers_start n ++ codes "held"
 answer_text (missing n k j) = supers_start n ++ codes "missing" ++ clause_text k j
 answer_text (undecided n k j) = supers_start n ++ codes "undecided" ++ clause_text k j
 answer_text (yes q vs) = prove_start q ++ codes "yes" ++ values_text vs
-answer_text (maybe q) = prove_start q ++ codes "maybe"
+answer_text (maybe q vs) = prove_start q ++ codes "maybe" ++ values_text vs
 answer_text (unproved q) = prove_start q ++ codes "unproved"
 answer_text (no q) = refute_start q ++ codes "no"
 answer_text (unrefuted q) = refute_start q ++ codes "open"

@@ -60,9 +60,13 @@ abbrev pub drop_three : List ℕ → List ℕ
 drop_three (a ∷ b ∷ c ∷ t) = t
 drop_three t = t
 
+abbrev pub drop_five : List ℕ → List ℕ
+drop_five (a ∷ b ∷ c ∷ d ∷ e ∷ t) = t
+drop_five t = t
+
 abbrev pub read_prove : ℕ → List ℕ → Answer
 read_prove q b = let w = upto 32 b in
-    if bytes_eq w (codes "maybe") then maybe q
+    if bytes_eq w (codes "maybe") then maybe q (as_value (drop_five b))
     else (if bytes_eq w (codes "unproved") then unproved q else yes q (as_value (drop_three b)))
 
 abbrev pub read_refute : ℕ → List ℕ → Answer
@@ -89,7 +93,7 @@ in_one (breaking n k) = breaking n k
 in_one (held n) = held n
 in_one (missing n k j) = missing n k j
 in_one (undecided n k j) = undecided n k j
-in_one (maybe q) = maybe q
+in_one (maybe q vs) = maybe q (as_value (values_text vs))
 in_one (unproved q) = unproved q
 in_one (no q) = no q
 in_one (unrefuted q) = unrefuted q
@@ -145,7 +149,8 @@ read-parts (undecided n k j) h =
     rw (p, q, l) refl
 read-parts (yes q []) h = let p = number-back q h.0 in rw p refl
 read-parts (yes q (v ∷ vs)) h = let p = number-back q h.0 in rw p refl
-read-parts (maybe q) h = let p = number-back q h in rw p refl
+read-parts (maybe q []) h = let p = number-back q h.0 in rw p refl
+read-parts (maybe q (v ∷ vs)) h = let p = number-back q h.0 in rw p refl
 read-parts (unproved q) h = let p = number-back q h in rw p refl
 read-parts (no q) h = let p = number-back q h in rw p refl
 read-parts (unrefuted q) h = let p = number-back q h in rw p refl

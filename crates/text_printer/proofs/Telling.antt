@@ -13,6 +13,7 @@ use Rattle.text_printer.proofs.ToldValues.{values-tell, further, values-further,
 -- the values of an answer, an answer with other values, and the one text that values have become
 values_of : Answer → List ValueText
 values_of (yes q vs) = vs
+values_of (maybe q vs) = vs
 values_of (fault l n) = []
 values_of (accepted n) = []
 values_of (nonlocal n k) = []
@@ -23,13 +24,13 @@ values_of (breaking n k) = []
 values_of (held n) = []
 values_of (missing n k j) = []
 values_of (undecided n k j) = []
-values_of (maybe q) = []
 values_of (unproved q) = []
 values_of (no q) = []
 values_of (unrefuted q) = []
 
 with_values : List ValueText → Answer → Answer
 with_values vs (yes q ws) = yes q vs
+with_values vs (maybe q ws) = maybe q vs
 with_values vs a = a
 
 one_text : List ValueText → List ℕ
@@ -49,7 +50,7 @@ back (breaking n k) = refl
 back (held n) = refl
 back (missing n k j) = refl
 back (undecided n k j) = refl
-back (maybe q) = refl
+back (maybe q vs) = refl
 back (unproved q) = refl
 back (no q) = refl
 back (unrefuted q) = refl
@@ -67,7 +68,7 @@ text-of-values (breaking n k) = refl
 text-of-values (held n) = refl
 text-of-values (missing n k j) = refl
 text-of-values (undecided n k j) = refl
-text-of-values (maybe q) = refl
+text-of-values (maybe q vs) = refl
 text-of-values (unproved q) = refl
 text-of-values (no q) = refl
 text-of-values (unrefuted q) = refl
@@ -85,7 +86,7 @@ printable-values (breaking n i) h = λ k d l. absurd (omega arith)
 printable-values (held n) h = λ k d l. absurd (omega arith)
 printable-values (missing n i j) h = λ k d l. absurd (omega arith)
 printable-values (undecided n i j) h = λ k d l. absurd (omega arith)
-printable-values (maybe q) h = λ k d l. absurd (omega arith)
+printable-values (maybe q vs) h = h.1
 printable-values (unproved q) h = λ k d l. absurd (omega arith)
 printable-values (no q) h = λ k d l. absurd (omega arith)
 printable-values (unrefuted q) h = λ k d l. absurd (omega arith)
@@ -154,7 +155,7 @@ body-ends (held n) h = refl
 body-ends (missing n k j) h = behind-literal (decimal k) (codes " clause " ++ decimal j) (number-ends k h.1) (number-ends j h.2)
 body-ends (undecided n k j) h = behind-literal (decimal k) (codes " clause " ++ decimal j) (number-ends k h.1) (number-ends j h.2)
 body-ends (yes q vs) h = values-end vs h.1
-body-ends (maybe q) h = refl
+body-ends (maybe q vs) h = values-end vs h.1
 body-ends (unproved q) h = refl
 body-ends (no q) h = refl
 body-ends (unrefuted q) h = refl

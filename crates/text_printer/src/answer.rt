@@ -81,9 +81,10 @@ pub enum Answer<'a> {
         question: u32,
         values: &'a [ValueText],
     },
-    /// `prove 1: maybe`: the search does not know, within the limits.
+    /// `prove 1: maybe ?x = V<?1>`: the search does not know, within the limits. What is known of its variables are these values.
     Maybe {
         question: u32,
+        values: &'a [ValueText],
     },
     /// `prove 1: unproved`: the search found no proof of the query.
     Unproved {
@@ -347,11 +348,13 @@ fn yes_line(alloc: Global, question: u32, values: &[ValueText]) -> Result<Vec<u8
     Ok(text)
 }
 
-fn maybe_line(alloc: Global, question: u32) -> Result<Vec<u8>, AllocError>
-    ensures { IfOk result (λ text. text.items ≡ output_text (maybe question)) }
+fn maybe_line(alloc: Global, question: u32, values: &[ValueText]) -> Result<Vec<u8>, AllocError>
+    ensures { IfOk result (λ text. text.items ≡ output_text (maybe question (map value_of values.now))) }
 {
     let mut text = prove_start(alloc, question)?;
-    text.extend_from_slice(b"maybe\n")?;
+    text.extend_from_slice(b"maybe")?;
+    push_values(&mut text, values)?;
+    text.push(b'\n')?;
     Ok(text)
 }
 
@@ -413,7 +416,7 @@ pub fn print_line(alloc: Global, answer: &Answer<'_>) -> Result<Vec<u8>, AllocEr
             clause,
         } => undecided_line(alloc, name, *number, *clause),
         Answer::Yes { question, values } => yes_line(alloc, *question, values),
-        Answer::Maybe { question } => maybe_line(alloc, *question),
+        Answer::Maybe { question, values } => maybe_line(alloc, *question, values),
         Answer::Unproved { question } => unproved_line(alloc, *question),
         Answer::No { question } => no_line(alloc, *question),
         Answer::Open { question } => open_line(alloc, *question),

@@ -15,7 +15,7 @@ use Rattle.sessions.specs.Promised.Promises.{view_in, IsProved, IsRefutation}
 abbrev pub proved_text : Declarations → Question → ProveAnswer → List ℕ
 proved_text d q (yes ts) = codes "yes" ++ yes_values_text d q ts
 proved_text d q unproved = codes "unproved"
-proved_text d q maybe = codes "maybe"
+proved_text d q (maybe ts) = codes "maybe" ++ yes_values_text d q ts
 
 -- What comes after `refute N: `.
 abbrev pub refuted_text : RefuteAnswer → List ℕ

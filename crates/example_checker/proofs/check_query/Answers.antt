@@ -2,7 +2,7 @@ use Rattle.std.proofs.Common.{◌≡◌, ◌-◌, Some, subst, sym, refl, inl, i
 use Rattle.std.specs.List.{slice_get}
 use Rattle.sessions.specs.Promised.Given.{refutation_of}
 use Rattle.sessions.specs.declared.answers.RefuteAnswer.TheVariants.{No, Open}
-use Rattle.coherence.specs.TextLanguage.Output.{Answer, maybe, unproved, no, unrefuted}
+use Rattle.coherence.specs.TextLanguage.Output.{Answer, unproved, no, unrefuted}
 use Rattle.coherence.specs.Lines.{IsQuestionLine, of_prove, of_refute}
 use Rattle.coherence.specs.Queries.{named_line}
 use Rattle.coherence.specs.declared.named_answer.NamedAnswer.TheVariants.{Yes, Maybe, Unproved}
@@ -33,8 +33,8 @@ returns-in-Maybe-clause-found c =
     let answered = c.in_ok-_values-in-Prove.ensures.answer q asks in
     let given = rw c.in-Maybe.is at answered in
     let line = subst (λ (l : Answer). IsQuestionLine limit d m q l) (sym given.named) (of_prove given.answer asks.proves given.right) in
-    let p = subst (λ k. (slice_get d.questions (k - 1) ≡ Some q) × IsQuestionLine limit d k q (maybe k)) at.0 (asks.asks.question.there, line) in
-    (q, _, p.0, inl refl, p.1)
+    let p = subst (λ k. (slice_get d.questions (k - 1) ≡ Some q) × IsQuestionLine limit d k q (named_line k (Maybe c.in-Maybe._values))) at.0 (asks.asks.question.there, line) in
+    (q, _, p.0, inl (_, refl), p.1)
 
 pub returns-in-Unproved-clause-found : goal.returns-in-Unproved-clause-found
 returns-in-Unproved-clause-found c =

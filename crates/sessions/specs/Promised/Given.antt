@@ -1,7 +1,8 @@
 -- What a session answers, over the terms of its interner.
-use Rattle.std.specs.Prelude.{List, map}
+use Rattle.std.specs.Prelude.{List, [], map}
 use Rattle.type_terms.specs.Promised.Trees.{erase}
 use Rattle.type_terms.specs.Promised.Handles.{arg_trees, ArgsHeld, Entry}
+use Rattle.type_terms.specs.declared.kinds.GenericArgKind.{GenericArgKind}
 use Rattle.orphan_check.specs.Promised.Errors.{ErrorHeld}
 use Rattle.overlap_check.specs.Promised.Errors.{error_in}
 use Rattle.type_terms.specs.Promised.Questions as answers
@@ -27,7 +28,7 @@ verdict_in es (Overlap k j) = verdicts.overlap k.index j.index
 -- The values of a query's variables, in their order, without lifetimes.
 abbrev pub answer_in : List Entry → ProveAnswer → answers.ProveAnswer
 answer_in es (Yes values) = answers.yes (map (λ v. erase (arg_trees es v)) values.items)
-answer_in es Maybe = answers.maybe
+answer_in es (Maybe values) = answers.maybe (map (λ v. erase (arg_trees es v)) values.items)
 answer_in es Unproved = answers.unproved
 
 -- The answer to `refute`, as the definitions name it.
@@ -52,8 +53,12 @@ VerdictHeld es Accepted = Unit {0}
 VerdictHeld es (Orphan k e) = ErrorHeld es e
 VerdictHeld es (Overlap k j) = Unit {0}
 
--- The values of an answer are the interner's.
+-- The values that an answer has.
+abbrev pub values_of_answer : ProveAnswer → List GenericArgKind
+values_of_answer (Yes values) = values.items
+values_of_answer (Maybe values) = values.items
+values_of_answer Unproved = []
+
+-- They are the interner's.
 abbrev pub AnswerValuesHeld : List Entry → ProveAnswer → Type 0
-AnswerValuesHeld es (Yes values) = ArgsHeld es values.items
-AnswerValuesHeld es Maybe = Unit {0}
-AnswerValuesHeld es Unproved = Unit {0}
+AnswerValuesHeld es a = ArgsHeld es (values_of_answer a)

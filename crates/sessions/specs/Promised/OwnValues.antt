@@ -6,7 +6,7 @@ use Rattle.type_terms.specs.Promised.Answers.{is_open, is_undeclared}
 use Rattle.type_terms.specs.Promised.Label.{Label, of_type, of_const, placeholder, infer}
 use Rattle.type_terms.specs.Promised.Trees.{Trees, some_node}
 use Rattle.type_terms.specs.Promised.Worlds.{World, Reference}
-use Rattle.type_terms.specs.Promised.Questions.{ProveAnswer, yes, is_bound_place}
+use Rattle.type_terms.specs.Promised.Questions.{ProveAnswer, yes, maybe, unproved, is_bound_place}
 
 -- an unknown, which stands for a variable of the question or is one of the answer's own
 abbrev pub is_unknown : Label → Bool
@@ -46,7 +46,8 @@ are_own V rs ts = list_all (λ t. not (some_node (is_foreign V rs) t)) ts
 abbrev pub SpeakOfOwn : World → List Reference → Reference → List Trees → Type 0
 SpeakOfOwn V E r ts = some_node is_unknown r.args ≡ true → are_own V (r ∷ E) ts ≡ true
 
--- So are they of an answer, if it is yes.
+-- So are they of an answer.
 abbrev pub SpeaksOfOwn : World → List Reference → Reference → ProveAnswer → Type 0
 SpeaksOfOwn V E r (yes ts) = SpeakOfOwn V E r ts
-SpeaksOfOwn V E r a = Unit {0}
+SpeaksOfOwn V E r (maybe ts) = SpeakOfOwn V E r ts
+SpeaksOfOwn V E r unproved = Unit {0}

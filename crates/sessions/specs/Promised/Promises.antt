@@ -27,13 +27,17 @@ AreForced V ks E r (yes ts) =
     HoldUnknownsAlone ts → (s : SolutionBy (HasProof V E) ks r) → ((x : SolutionBy (HasProof V E) ks r) → x.values ≡ s.values) → ts ≡ s.values
 AreForced V ks E r a = Unit {0}
 
--- The answer to a question without where-clauses and parameters covers its solutions: each is the values of a yes, with terms us for the
--- variables that these leave open, of kinds js, and if the question is unproved there is none.
+-- Each solution is these values, with terms us for the variables that they leave open, of kinds js.
+abbrev pub CoverSolutions : World → List Sort → List Reference → Reference → List Trees → Type 0
+CoverSolutions V ks E r ts =
+    (s : SolutionBy (HasProof V E) ks r) → (js : List Sort) × (us : List Trees) × FitKinds js us × (map (filled js us) ts ≡ s.values)
+
+-- The answer to a question without parameters covers its solutions. Those of a maybe are its values, and without where-clauses so are those
+-- of a yes, and an unproved question has none.
 abbrev pub CoversSolutions : World → List Sort → List Reference → Reference → ProveAnswer → Type 0
-CoversSolutions V ks E r (yes ts) =
-    E ≡ [] → HasNoParameter r → (s : SolutionBy (HasProof V []) ks r) → (js : List Sort) × (us : List Trees) × FitKinds js us × (map (filled js us) ts ≡ s.values)
-CoversSolutions V ks E r unproved = E ≡ [] → HasNoParameter r → SolutionBy (HasProof V []) ks r → ⊥
-CoversSolutions V ks E r maybe = Unit {0}
+CoversSolutions V ks E r (yes ts) = E ≡ [] → HasNoParameter r → CoverSolutions V ks E r ts
+CoversSolutions V ks E r unproved = E ≡ [] → HasNoParameter r → SolutionBy (HasProof V E) ks r → ⊥
+CoversSolutions V ks E r (maybe ts) = HasNoParameter r → CoverSolutions V ks E r ts
 
 -- Every chain of premises from r has fewer than n steps.
 abbrev pub EndsWithin : ℕ → World → List Reference → Reference → Type 0
@@ -64,10 +68,10 @@ HasFewRules (suc n) W E r =
 abbrev pub IsDecided : ℕ → World → List Reference → Reference → ProveAnswer → Type 0
 IsDecided limit V E r (yes ts) = Unit {0}
 IsDecided limit V E r unproved = IsTrue (not (some_node is_variable r.args)) → EndsWithin limit V E r → HasProof V E r → ⊥
-IsDecided limit V E r maybe = IsTrue (not (some_node is_variable r.args)) → EndsWithin limit V E r → HasProof V E r × (HasFewRules limit V E r → ⊥)
+IsDecided limit V E r (maybe ts) = IsTrue (not (some_node is_variable r.args)) → EndsWithin limit V E r → HasProof V E r × (HasFewRules limit V E r → ⊥)
 
--- The answer to a `prove` question, by what the asking crate sees of the text and the question's where-clauses; the values of a yes name only
--- what it sees, and their open places are unknowns and the question's parameters. Without variables, and within the limit, `unproved` and
+-- The answer to a `prove` question, by what the asking crate sees of the text and the question's where-clauses; its values name only what
+-- that crate sees, and their open places are unknowns and the question's parameters. Without variables, and within the limit, `unproved` and
 -- `maybe` tell whether there is a proof.
 abbrev pub IsProved : ℕ → Declarations → Question → ProveAnswer → Type 0
 IsProved limit d q a =

@@ -32,11 +32,11 @@ abbrev pub filled_reference : List Sort → List Trees → Reference → Referen
 filled_reference ks ts r = record { trait = r.trait; args = filled ks ts r.args }
 
 -- ---- `prove`
--- The answers to a `prove` line. `yes` has the values of the variables.
+-- The answers to a `prove` line. `yes` has the values of the variables, and `maybe` what is known of these.
 pub data ProveAnswer : Type 0 where
   yes : List Trees → ProveAnswer
   unproved : ProveAnswer
-  maybe : ProveAnswer
+  maybe : List Trees → ProveAnswer
 
 -- Closed values for the variables, such that H holds of the trait reference with these values.
 pub record SolutionBy (H : Reference → Type 0) (ks : List Sort) (r : Reference) : Type 0 where
@@ -64,7 +64,7 @@ abbrev pub IsProveAnswer : ℕ → World → List Sort → List Reference → Re
 IsProveAnswer limit V ks E r (yes ts) =
     FitKinds ks ts × HasProof V E (filled_reference ks ts r) × (HoldUnknownsAlone ts → SolutionBy (HasProof V E) ks r)
 IsProveAnswer limit V ks E r unproved = IsUnambiguous limit V E r → HasProof V E r → ⊥
-IsProveAnswer limit V ks E r maybe = IsUnambiguous limit V E r → ⊥
+IsProveAnswer limit V ks E r (maybe ts) = IsUnambiguous limit V E r → ⊥
 
 -- ---- `refute`
 -- The answers to a `refute` line.

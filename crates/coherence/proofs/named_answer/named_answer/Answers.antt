@@ -9,7 +9,7 @@ use Rattle.coherence.proofs.Answered.{proved-of, named-values}
 use Rattle.coherence.proofs.FullTables.{handed-on}
 use Rattle.coherence.proofs.KeptLines.{stays-on, still}
 use Rattle.coherence.proofs.named_answer.named_answer.Goals as goal
-use Rattle.coherence.proofs.named_answer.named_answer.Goals.{in-Yes+in_ok-texts-in-Yes, in-Maybe, in-Unproved}
+use Rattle.coherence.proofs.named_answer.named_answer.Goals.{in-Yes+in_ok-texts-in-Yes, in-Maybe+in_ok-texts-in-Maybe, in-Unproved}
 
 pub returns-clause-answer : goal.returns-clause-answer
 returns-clause-answer g c q asks =
@@ -25,7 +25,12 @@ returns-clause-answer g c q asks =
             right = rw w.in-Yes.is at proved;
             named = rw w.named-is (ap (output.yes n) (named-values d q _ es _ w.in-Yes.values.items _ w.interner.ensures.terms w.deref.ensures.value (w.in_ok-texts-in-Yes.ensures q asks.asks.question)));
           }
-      | in-Maybe w ↦ record { answer = answer_in es Maybe; right = rw w.in-Maybe.is at proved; named = rw w.named-is refl }
+      | in-Maybe+in_ok-texts-in-Maybe w ↦
+          record {
+            answer = answer_in es (Maybe w.in-Maybe.values);
+            right = rw w.in-Maybe.is at proved;
+            named = rw w.named-is (ap (output.maybe n) (named-values d q _ es _ w.in-Maybe.values.items _ w.interner-in-Maybe.ensures.terms w.deref-in-Maybe.ensures.value (w.in_ok-texts-in-Maybe.ensures q asks.asks.question)));
+          }
       | in-Unproved w ↦ record { answer = answer_in es Unproved; right = rw w.in-Unproved.is at proved; named = rw w.named-is refl }
     ]
 

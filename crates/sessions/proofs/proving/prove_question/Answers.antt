@@ -4,11 +4,12 @@ use Rattle.candidate_assembly.specs.Solving.{Solving}
 use Rattle.candidate_assembly.specs.declared.solver.Solver.{Solver}
 use Rattle.sessions.specs.Proving.{IsAnsweredBySolver}
 use Rattle.type_terms.specs.Terms.{args_lists}
-use Rattle.type_terms.specs.Kept.{has-later}
+use Rattle.type_terms.specs.Kept.{args-held-later, has-later}
 use Rattle.declarations.specs.Items.{reference_in, written}
 use Rattle.candidate_assembly.specs.Fitting.{solving_of}
 use Rattle.declarations.proofs.Bounded.{all-same}
 use Rattle.sessions.proofs.HandedOn.{handed-on, own-held, reference-later, references-later}
+use Rattle.sessions.proofs.Posing.{args-later}
 use Rattle.candidate_assembly.specs.SolverMeaning.{solver_by_view}
 use Rattle.sessions.specs.Frames.{QuestionInFrames}
 use Rattle.solver_graph.proofs.Askings.{asked-none}
@@ -55,10 +56,13 @@ returns-clause-keeps c = λ i e h. c.prove_lowered.ensures.keeps i e (c.lower_in
 
 pub returns-clause-held : goal.returns-clause-held
 returns-clause-held c =
+    let old = c.lower_in.new.cx.interner.entries in
     let new = c.prove_lowered.new.search.cx.interner.entries in
     let l = c.in_ok-lowered.lowered in
-    own-held (solving_of new c.prove_lowered.new.search.cx.handler.declarations) c.args.search.now.graph.root_depth c.requires.question.0 new (written new c.prove_lowered.new.search.cx.handler.declarations)
-    (reference_in new l.asked) (references_in new l.clauses.items) c.in_ok-answer.answer c.own_answer.result c.own_answer.ensures c.in_ok-answer.ensures.held
+    own-held (written new c.prove_lowered.new.search.cx.handler.declarations) (reference_in new l.asked) (references_in new l.clauses.items) l.unknowns.items new
+    c.in_ok-answer.answer c.in_ok-own.own c.in_ok-own.ensures
+    (args-held-later old new c.prove_lowered.ensures.keeps l.unknowns.items (c.in_ok-lowered.ensures.lowered c.requires.question.0 c.requires.question.1).unknowns_held)
+    c.in_ok-answer.ensures.held
 
 pub own_answer-requires-clause-answer : goal.own_answer-requires-clause-answer
 own_answer-requires-clause-answer c = c.in_ok-answer.ensures.held
@@ -97,14 +101,15 @@ returns-clause-answer c = λ q is.
     let new = c.prove_lowered.new.search.cx.interner.entries in
     let l = c.in_ok-lowered.lowered in
     let low = c.in_ok-lowered.ensures.lowered q is in
-    subst (λ (s : Solving). IsAnsweredBySolver s c.args.search.now.graph.root_depth q new c.own_answer.result)
+    subst (λ (s : Solving). IsAnsweredBySolver s c.args.search.now.graph.root_depth q new c.in_ok-own.own)
     (c.rest_laws.ensures.meaning c.args.search.now.cx c.lower_in.new.cx c.requires.rest.ready c.lower_in.ensures.advances)
     (handed-on (solving_of old c.lower_in.new.cx.handler.declarations) c.args.search.now.graph.root_depth q new (written new c.prove_lowered.new.search.cx.handler.declarations)
-    (reference_in new l.asked) (references_in new l.clauses.items) c.in_ok-answer.answer c.own_answer.result
+    (reference_in new l.asked) (references_in new l.clauses.items) l.unknowns.items c.in_ok-answer.answer c.in_ok-own.own
     (ap (λ (s : Solving). s.view) c.prove_lowered.ensures.solving)
     (reference-later old new c.prove_lowered.ensures.keeps l.asked low.asked_held ∙ low.asked)
     (all-same old new c.prove_lowered.ensures.keeps l.clauses.items low.clauses_held ∙ low.clauses)
-    (c.in_ok-answer.ensures.answer q low) c.own_answer.ensures)
+    (args-later old new c.prove_lowered.ensures.keeps l.unknowns.items low.unknowns_held ∙ low.unknowns)
+    (c.in_ok-answer.ensures.answer q low) c.in_ok-own.ensures)
 
 pub returns-in_err-lowered-clause-frames : goal.returns-in_err-lowered-clause-frames
 returns-in_err-lowered-clause-frames c = λ q is. asked-none solver_by_view _ _ _ _ _ _ _
