@@ -1,6 +1,7 @@
 //! Diagnostics as data: a message, where it belongs, and what follows it.
 
 ghost use Rattle.std.specs.Prelude.{◌≡◌, true, false, []};
+ghost use Rattle.explain_diagnostics.specs.Names.{code_name, level_name};
 
 use crate::span::Span;
 use std::alloc::Global;
@@ -181,7 +182,9 @@ impl Diagnostic {
 
 impl Level {
     /// The word that rustc prints.
-    pub(crate) fn name(self) -> &'static str {
+    pub(crate) fn name(self) -> &'static str
+        ensures { result.now ≡ level_name self }
+    {
         match self {
             Level::Error => "error",
             Level::Note => "note",
@@ -192,7 +195,9 @@ impl Level {
 
 impl ErrCode {
     /// The code as rustc prints it.
-    pub fn name(self) -> &'static str {
+    pub fn name(self) -> &'static str
+        ensures { result.now ≡ code_name self }
+    {
         match self {
             ErrCode::E0117 => "E0117",
             ErrCode::E0119 => "E0119",

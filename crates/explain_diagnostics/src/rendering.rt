@@ -1,6 +1,8 @@
 //! Diagnostics as text for people, in rustc's form.
 
-ghost use Rattle.std.specs.Prelude.{◌≡◌, ◌≤◌, ◌+◌, false, string_len};
+ghost use Rattle.std.specs.Prelude.{◌≡◌, ◌≤◌, ◌+◌, ◌++◌, false, string_len};
+ghost use Rattle.explain_diagnostics.specs.Names.{in_brackets, level_name};
+ghost use Rattle.explain_diagnostics.specs.Shown.{Appends};
 
 use crate::diagnostic::{Diagnostic, ErrCode, Level, ProofRow, SpanLabel, Subdiagnostic};
 use crate::excerpt::{Frame, push_excerpt};
@@ -40,7 +42,9 @@ fn frame_of(diagnostic: &Diagnostic, has_colors: bool) -> Frame {
 }
 
 /// Appends the level of a message, and its code if there is one.
-fn push_header(out: &mut TextWriter, has_colors: bool, level: Level, code: Option<ErrCode>) {
+fn push_header(out: &mut TextWriter, has_colors: bool, level: Level, code: Option<ErrCode>)
+    ensures { has_colors ≡ false → Appends out.old out.new (level_name level ++ in_brackets code) }
+{
     push_ink(out, has_colors, Ink::OfLevel(level));
     out.push_str(level.name());
     if let Some(code) = code {

@@ -36,7 +36,7 @@ impl Ink {
 
 /// Appends the code that begins a text in a colour, if there are colours.
 pub(crate) fn push_ink(out: &mut TextWriter, has_colors: bool, ink: Ink)
-    ensures { has_colors ≡ false → string_len out.new.text ≤ string_len out.old.text }
+    ensures { has_colors ≡ false → out.new ≡ out.old }
 {
     if has_colors {
         out.push_str(ink.codes());
@@ -45,7 +45,7 @@ pub(crate) fn push_ink(out: &mut TextWriter, has_colors: bool, ink: Ink)
 
 /// Appends the code that ends such a text, if there are colours.
 pub(crate) fn push_reset(out: &mut TextWriter, has_colors: bool)
-    ensures { has_colors ≡ false → string_len out.new.text ≤ string_len out.old.text }
+    ensures { has_colors ≡ false → out.new ≡ out.old }
 {
     if has_colors {
         out.push_str(RESET);

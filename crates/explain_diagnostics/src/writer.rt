@@ -1,10 +1,10 @@
 //! Texts that are being written.
 
 ghost use Rattle.std.specs.Prelude.{◌≡◌, ◌≤◌, ◌<◌, ◌+◌, ◌++◌, ◌∷◌, [], length, map, min, false, string_bytes, string_len, IfOk};
-ghost use Rattle.explain_diagnostics.specs.Shown.{shown};
+ghost use Rattle.std.specs.Fmt.{decimal};
+ghost use Rattle.explain_diagnostics.specs.Shown.{Appends, shown};
 
 use std::alloc::{AllocError, Global};
-use std::fmt::InlineText;
 
 /// A byte as it is displayed: a printable byte of ASCII as it is, a tab as a space, any other as `?`.
 pub fn shown_byte(byte: u8) -> u8
@@ -76,9 +76,13 @@ impl TextWriter {
     }
 
     /// Appends `before` and the number.
-    pub fn push_number(&mut self, before: &str, number: usize) {
+    pub fn push_number(&mut self, before: &str, number: usize)
+        ensures { Appends self.old self.new (before.now ++ decimal number) }
+    {
         self.push_str(before);
-        self.push_str(InlineText::<20>::of(number).as_str());
+        if !self.is_refused {
+            self.is_refused = self.text.write(number).is_err();
+        }
     }
 
     /// Appends a byte as it is displayed.
@@ -95,6 +99,7 @@ impl TextWriter {
     /// Appends the bytes of a text, each as it is displayed.
     pub fn push_shown(&mut self, text: &[u8])
         ensures bytes { self.new.is_refused ≡ false → string_bytes self.new.text ≡ string_bytes self.old.text ++ map shown text.now }
+        ensures stays { self.new.is_refused ≡ false → self.old.is_refused ≡ false }
         ensures len { string_len self.new.text ≤ string_len self.old.text + length text.now }
     {
         for byte in text {

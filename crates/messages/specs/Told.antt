@@ -1,5 +1,5 @@
--- What a call adds to a diagnostic that is being written. What the texts say is not stated.
-use Rattle.std.specs.Prelude.{◌≡◌, ℕ, Bool, true, false, List, [], ◌∷◌, ◌++◌, map, Option}
+-- What a call adds to a diagnostic that is being written.
+use Rattle.std.specs.Prelude.{◌≡◌, ℕ, Bool, true, false, List, [], ◌∷◌, ◌++◌, map, Option, string_bytes}
 use Rattle.explain_diagnostics.specs.declared.diagnostic.Diagnostic.{Diagnostic}
 use Rattle.explain_diagnostics.specs.declared.diagnostic.ErrCode.{ErrCode}
 use Rattle.explain_diagnostics.specs.declared.diagnostic.Level.{Level}
@@ -7,31 +7,64 @@ use Rattle.explain_diagnostics.specs.declared.diagnostic.ProofRow.{ProofRow}
 use Rattle.explain_diagnostics.specs.declared.diagnostic.SpanLabel.{SpanLabel}
 use Rattle.explain_diagnostics.specs.declared.diagnostic.Subdiagnostic.{Subdiagnostic}
 use Rattle.explain_diagnostics.specs.declared.span.Span.{Span}
+use Rattle.messages.specs.Written.{impl_line_of, piece_text, text_of}
+use Rattle.messages.specs.declared.sentences.Piece.{Piece}
+use Rattle.messages.specs.declared.sentences.Sentence.{Sentence}
 use Rattle.messages.specs.declared.telling.Telling.{Telling}
 
 -- Which parts are marked, and which of them the message is about.
 abbrev pub marks : List SpanLabel → List (Span × Bool)
 marks = map (λ (l : SpanLabel). (l.span, l.is_primary))
 
--- Which children are notes, and which advise.
-abbrev pub child_levels : List Subdiagnostic → List Level
-child_levels = map (λ (c : Subdiagnostic). c.level)
+-- What the labels of these parts say.
+abbrev pub labels : List SpanLabel → List (List ℕ)
+labels = map (λ (l : SpanLabel). string_bytes l.label)
 
--- How deep the rows of a proof are.
-abbrev pub depths : List ProofRow → List ℕ
-depths = map (λ (r : ProofRow). r.depth)
+-- A child as it is displayed: its level, what it says, which parts it marks, and with which labels.
+pub record Child : Type 0 where
+  pub level : Level
+  pub says : List ℕ
+  pub marked : List (Span × Bool)
+  pub labelled : List (List ℕ)
 
--- One mark behind the others, and nothing else.
-abbrev pub AddsMark : Diagnostic → Diagnostic → Span → Bool → Type 0
-AddsMark old new s b = (marks new.spans.items ≡ marks old.spans.items ++ (s, b) ∷ []) × (new ≡ record old { spans = new.spans })
+abbrev pub child_of : Subdiagnostic → Child
+child_of c = record { level = c.level; says = string_bytes c.message; marked = marks c.spans.items; labelled = labels c.spans.items }
 
--- One child behind the others, and nothing else.
-abbrev pub AddsChild : Diagnostic → Diagnostic → Level → Type 0
-AddsChild old new l = (child_levels new.children.items ≡ child_levels old.children.items ++ l ∷ []) × (new ≡ record old { children = new.children })
+abbrev pub children : Diagnostic → List Child
+children d = map child_of d.children.items
+
+-- A row of a proof as it is displayed.
+pub record Row : Type 0 where
+  pub depth : ℕ
+  pub goal : List ℕ
+  pub reason : List ℕ
+  pub impl_line : Option ℕ
+
+abbrev pub row_of : ProofRow → Row
+row_of r = record { depth = r.depth; goal = string_bytes r.goal; reason = string_bytes r.reason; impl_line = r.impl_line }
+
+abbrev pub rows : Diagnostic → List Row
+rows d = map row_of d.proof.items
+
+-- One mark with this label behind the others, and nothing else.
+pub record AddsMark (old new : Diagnostic) (span : Span) (is_primary : Bool) (label : List ℕ) : Type 0 where
+  pub marked : marks new.spans.items ≡ marks old.spans.items ++ (span, is_primary) ∷ []
+  pub labelled : labels new.spans.items ≡ labels old.spans.items ++ label ∷ []
+  pub rest : new ≡ record old { spans = new.spans }
+
+-- One child without marks behind the others, and nothing else.
+pub record AddsChild (old new : Diagnostic) (level : Level) (text : List ℕ) : Type 0 where
+  pub added : children new ≡ children old ++ record { level = level; says = text; marked = []; labelled = [] } ∷ []
+  pub rest : new ≡ record old { children = new.children }
+
+-- The row of a goal and of why it holds.
+abbrev pub told_row : ℕ → Piece → Sentence → Row
+told_row depth goal reason = record { depth = depth; goal = piece_text goal; reason = text_of reason; impl_line = impl_line_of reason }
 
 -- One row behind the others, and nothing else.
-abbrev pub AddsRow : Diagnostic → Diagnostic → ℕ → Type 0
-AddsRow old new d = (depths new.proof.items ≡ depths old.proof.items ++ d ∷ []) × (new ≡ record old { proof = new.proof })
+pub record AddsRow (old new : Diagnostic) (row : Row) : Type 0 where
+  pub added : rows new ≡ rows old ++ row ∷ []
+  pub rest : new ≡ record old { proof = new.proof }
 
 -- The level, the code and the marks of the message stay. A refused request stays refused.
 pub record KeepsMessage (old new : Telling) : Type 0 where

@@ -3,12 +3,15 @@
 //! A sentence borrows its parts and owns nothing. So choosing one takes no memory and cannot fail. `Telling` takes sentences and writes
 //! them.
 
-ghost use Rattle.std.specs.Prelude.{◌≡◌};
+ghost use Rattle.std.specs.Prelude.{◌≡◌, ◌∷◌, [], map, true, string_bytes, IfOk};
+ghost use Rattle.explain_diagnostics.specs.Shown.{Appends};
 ghost use Rattle.messages.specs.Marked.{is_marked, says_unchecked};
+ghost use Rattle.messages.specs.Written.{Says, WritesByte, cut_name, impl_line_of, piece_text, text_of};
 
 use crate::names::Name;
 use explain_diagnostics::{TYPE_LIMIT, TextWriter};
 use std::alloc::{AllocError, Global};
+use std::slice::Iter;
 
 /// A part that is put into a sentence.
 #[derive(Clone, Copy)]
@@ -37,7 +40,8 @@ pub const NONE: Piece<'static> = Piece::Text("");
 
 /// A sentence without parts.
 pub fn plain(template: &'static str) -> Sentence<'static>
-    ensures { is_marked result ≡ says_unchecked template.now }
+    ensures marks { is_marked result ≡ says_unchecked template.now }
+    ensures says { Says result template.now ([] ∷ [] ∷ [] ∷ [] ∷ []) }
 {
     Sentence {
         template,
@@ -47,7 +51,8 @@ pub fn plain(template: &'static str) -> Sentence<'static>
 
 /// A sentence with one part.
 pub fn with_one<'t>(template: &'static str, first: Piece<'t>) -> Sentence<'t>
-    ensures { is_marked result ≡ says_unchecked template.now }
+    ensures marks { is_marked result ≡ says_unchecked template.now }
+    ensures says { Says result template.now (piece_text first.entry ∷ [] ∷ [] ∷ [] ∷ []) }
 {
     Sentence {
         template,
@@ -57,7 +62,8 @@ pub fn with_one<'t>(template: &'static str, first: Piece<'t>) -> Sentence<'t>
 
 /// A sentence with two parts.
 pub fn with_two<'t>(template: &'static str, first: Piece<'t>, second: Piece<'t>) -> Sentence<'t>
-    ensures { is_marked result ≡ says_unchecked template.now }
+    ensures marks { is_marked result ≡ says_unchecked template.now }
+    ensures says { Says result template.now (piece_text first.entry ∷ piece_text second.entry ∷ [] ∷ [] ∷ []) }
 {
     Sentence {
         template,
@@ -72,7 +78,8 @@ pub fn with_three<'t>(
     second: Piece<'t>,
     third: Piece<'t>,
 ) -> Sentence<'t>
-    ensures { is_marked result ≡ says_unchecked template.now }
+    ensures marks { is_marked result ≡ says_unchecked template.now }
+    ensures says { Says result template.now (piece_text first.entry ∷ piece_text second.entry ∷ piece_text third.entry ∷ [] ∷ []) }
 {
     Sentence {
         template,
@@ -82,25 +89,31 @@ pub fn with_three<'t>(
 
 /// A sentence with four parts.
 pub fn with_four<'t>(template: &'static str, pieces: [Piece<'t>; 4]) -> Sentence<'t>
-    ensures { is_marked result ≡ says_unchecked template.now }
+    ensures marks { is_marked result ≡ says_unchecked template.now }
+    ensures says { Says result template.now (map piece_text pieces.entry) }
 {
     Sentence { template, pieces }
 }
 
 /// Appends a name, cut if it is long.
-fn push_name(out: &mut TextWriter, name: Name<'_>) {
-    let shown = name.bytes.get(..TYPE_LIMIT).unwrap_or(name.bytes);
-    out.push_shown(shown);
-    if shown.len() < name.bytes.len() {
+fn push_name(out: &mut TextWriter, name: &[u8], limit: usize)
+    ensures { Appends out.old out.new (cut_name limit name.now) }
+{
+    if name.len() <= limit {
+        out.push_shown(name);
+    } else {
+        out.push_shown(&name[..limit]);
         out.push_str("..");
     }
 }
 
 /// Appends a part.
-fn push_piece(out: &mut TextWriter, piece: Piece<'_>) {
+fn push_piece(out: &mut TextWriter, piece: Piece<'_>)
+    ensures { Appends out.old out.new (piece_text piece.entry) }
+{
     match piece {
         Piece::Text(text) => out.push_str(text),
-        Piece::Name(name) => push_name(out, name),
+        Piece::Name(name) => push_name(out, name.bytes, TYPE_LIMIT),
         Piece::Number(number) => out.push_number("", number),
         Piece::Reference(subject, bound) => {
             out.push_str(subject);
@@ -115,22 +128,34 @@ fn push_piece(out: &mut TextWriter, piece: Piece<'_>) {
     }
 }
 
-/// Appends a sentence.
-fn push_sentence(out: &mut TextWriter, sentence: Sentence<'_>) {
-    let mut pieces = sentence.pieces.iter();
-    for byte in sentence.template.as_bytes() {
-        if *byte == b'{' {
-            if let Some(piece) = pieces.next() {
-                push_piece(out, *piece);
-            }
-        } else if *byte != b'}' {
-            out.push_byte(*byte);
+/// Appends what a byte of the fixed words stands for: the next part in place of `{}`, and else the byte.
+fn push_at(out: &mut TextWriter, byte: u8, pieces: &mut Iter<'_, Piece<'_>>)
+    ensures { WritesByte out.old out.new byte pieces.old pieces.new }
+{
+    if byte == b'{' {
+        if let Some(piece) = pieces.next() {
+            push_piece(out, *piece);
         }
+    } else if byte != b'}' {
+        out.push_byte(byte);
+    }
+}
+
+/// Appends a sentence.
+fn push_sentence(out: &mut TextWriter, sentence: Sentence<'_>)
+    ensures { Appends out.old out.new (text_of sentence.entry) }
+{
+    let mut pieces = sentence.pieces.iter();
+    let template = sentence.template.as_bytes();
+    for byte in template {
+        push_at(out, *byte, &mut pieces);
     }
 }
 
 /// The line of the impl that a sentence speaks of first, if that is what it speaks of.
-pub(crate) fn impl_line_in(sentence: Sentence<'_>) -> Option<u32> {
+pub(crate) fn impl_line_in(sentence: Sentence<'_>) -> Option<u32>
+    ensures { result ≡ impl_line_of sentence.entry }
+{
     match sentence.pieces {
         [Piece::ImplAtLine(line), ..] => Some(line),
         _ => None,
@@ -138,7 +163,11 @@ pub(crate) fn impl_line_in(sentence: Sentence<'_>) -> Option<u32> {
 }
 
 /// A sentence as text. Fails only if memory is refused.
-pub fn sentence_text(alloc: Global, sentence: Sentence<'_>) -> Result<String, AllocError> {
+#[tactic(auto, using(crate::proofs::MarkedTexts::marked_written))]
+pub fn sentence_text(alloc: Global, sentence: Sentence<'_>) -> Result<String, AllocError>
+    ensures text { IfOk result (λ t. string_bytes t ≡ text_of sentence.entry) }
+    ensures marked { is_marked sentence.entry ≡ true → IfOk result (λ t. says_unchecked (string_bytes t) ≡ true) }
+{
     let mut out = TextWriter::new(alloc);
     push_sentence(&mut out, sentence);
     out.finish()

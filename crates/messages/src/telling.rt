@@ -1,9 +1,10 @@
 //! Diagnostics that are being written.
 
-ghost use Rattle.std.specs.Prelude.{◌≡◌, [], false, true, IfNone, IfOk, IfSome, OnOk, OnSome};
+ghost use Rattle.std.specs.Prelude.{◌≡◌, [], false, true, string_bytes, IfNone, IfOk, IfSome, OnOk, OnSome};
 ghost use Rattle.std.specs.declared.result.Result.TheVariants.{Ok};
 ghost use Rattle.explain_diagnostics.specs.declared.diagnostic.Level.TheVariants.{Help, Note};
-ghost use Rattle.messages.specs.Told.{AddsChild, AddsMark, AddsRow, KeepsMessage};
+ghost use Rattle.messages.specs.Told.{AddsChild, AddsMark, AddsRow, KeepsMessage, told_row};
+ghost use Rattle.messages.specs.Written.{text_of};
 
 use crate::sentences::{Piece, Sentence, impl_line_in, plain, sentence_text, with_one};
 use explain_diagnostics::{Diagnostic, ErrCode, Level, ProofRow, Span, SpanLabel, Subdiagnostic};
@@ -39,6 +40,8 @@ impl Telling {
         ensures level { result.told.level ≡ level }
         ensures code { result.told.code ≡ code }
         ensures marks { result.told.spans.items ≡ [] }
+        ensures rest { (result.told.proof.items ≡ []) × (result.told.children.items ≡ []) }
+        ensures text { result.is_refused ≡ false → string_bytes result.told.message ≡ text_of message.entry }
     {
         let (message, is_refused) = match sentence_text(alloc, message) {
             Ok(message) => (message, false),
@@ -91,6 +94,7 @@ impl Telling {
 
     /// A sentence as text, if no request was refused.
     fn text_of(&mut self, sentence: Sentence<'_>) -> Option<String>
+        ensures text { IfSome result (λ t. string_bytes t ≡ text_of sentence.entry) }
         ensures refused { IfNone result (self.new.is_refused ≡ true) }
         ensures stays { OnSome result (self.old.is_refused ≡ false) }
         ensures told { self.new.told ≡ self.old.told }
@@ -104,7 +108,7 @@ impl Telling {
 
     /// Adds a mark with a label to the message.
     fn add_mark(&mut self, span: Span, is_primary: bool, label: Sentence<'_>)
-        ensures told { self.new.is_refused ≡ false → AddsMark self.old.told self.new.told span is_primary }
+        ensures told { self.new.is_refused ≡ false → AddsMark self.old.told self.new.told span is_primary (text_of label.entry) }
         ensures stays { self.new.is_refused ≡ false → self.old.is_refused ≡ false }
     {
         if let Some(label) = self.text_of(label) {
@@ -119,7 +123,7 @@ impl Telling {
 
     /// Marks what the message is about, with a label.
     pub fn mark(&mut self, span: Span, label: Sentence<'_>)
-        ensures told { self.new.is_refused ≡ false → AddsMark self.old.told self.new.told span true }
+        ensures told { self.new.is_refused ≡ false → AddsMark self.old.told self.new.told span true (text_of label.entry) }
         ensures stays { self.new.is_refused ≡ false → self.old.is_refused ≡ false }
     {
         self.add_mark(span, true, label);
@@ -127,7 +131,7 @@ impl Telling {
 
     /// Marks another part, with a label.
     pub fn mark_beside(&mut self, span: Span, label: Sentence<'_>)
-        ensures told { self.new.is_refused ≡ false → AddsMark self.old.told self.new.told span false }
+        ensures told { self.new.is_refused ≡ false → AddsMark self.old.told self.new.told span false (text_of label.entry) }
         ensures stays { self.new.is_refused ≡ false → self.old.is_refused ≡ false }
     {
         self.add_mark(span, false, label);
@@ -135,7 +139,7 @@ impl Telling {
 
     /// Adds a child without a span.
     fn add_child(&mut self, level: Level, message: Sentence<'_>)
-        ensures told { self.new.is_refused ≡ false → AddsChild self.old.told self.new.told level }
+        ensures told { self.new.is_refused ≡ false → AddsChild self.old.told self.new.told level (text_of message.entry) }
         ensures message { KeepsMessage self.old self.new }
     {
         if let Some(message) = self.text_of(message) {
@@ -146,7 +150,7 @@ impl Telling {
 
     /// Adds a note without a span.
     pub fn note(&mut self, message: Sentence<'_>)
-        ensures told { self.new.is_refused ≡ false → AddsChild self.old.told self.new.told Note }
+        ensures told { self.new.is_refused ≡ false → AddsChild self.old.told self.new.told Note (text_of message.entry) }
         ensures message { KeepsMessage self.old self.new }
     {
         self.add_child(Level::Note, message);
@@ -154,7 +158,7 @@ impl Telling {
 
     /// Adds a help without a span.
     pub fn help(&mut self, message: Sentence<'_>)
-        ensures told { self.new.is_refused ≡ false → AddsChild self.old.told self.new.told Help }
+        ensures told { self.new.is_refused ≡ false → AddsChild self.old.told self.new.told Help (text_of message.entry) }
         ensures message { KeepsMessage self.old self.new }
     {
         self.add_child(Level::Help, message);
@@ -203,7 +207,7 @@ impl Telling {
 
     /// Adds a row of a proof: what holds, how deep it is below the first row, and why it holds.
     pub fn row(&mut self, depth: usize, goal: Piece<'_>, reason: Sentence<'_>)
-        ensures told { self.new.is_refused ≡ false → AddsRow self.old.told self.new.told depth }
+        ensures told { self.new.is_refused ≡ false → AddsRow self.old.told self.new.told (told_row depth goal.entry reason.entry) }
         ensures message { KeepsMessage self.old self.new }
     {
         let impl_line = impl_line_in(reason);
