@@ -22,7 +22,7 @@ from .common import TOP
 
 SCRIPT = TOP / "celtisdarts"
 PROGRAMS = ("celtisdarts",)
-HELP_OFFERED = " (./celtisdarts --help lists the options)\n"
+HELP_OFFERED = " (--help lists the options)\n"
 
 # A text without a fault whose answers are not all the best ones: crate, section, supertraits and queries, in another order than answered.
 MIXED = """\
@@ -72,10 +72,12 @@ prove 1: yes
 
 RT = """\
 #!/bin/sh
-# Replaces the toolchain: it compiles nothing, and runs a program that was proved before.
+# Replaces the toolchain: it compiles nothing, and runs a program that was proved before, in a folder with copies of the files that it gets.
 [ "$1" != version ] || { echo "a toolchain"; exit; }
+name=$(basename "$PWD")
+room=$(mktemp -d)
 while [ "$1" != -- ]; do
-    [ "$1" != --cases ] || cases=$2
+    [ "$1" != --data ] || cp "${2#*=}" "$room/${2%%=*}"
     shift
 done
 shift
@@ -85,11 +87,10 @@ while [ -f "$STANDIN/wait" ] && [ "$waited" -lt 60 ]; do
     "$STANDIN/real_sleep" 1
     waited=$((waited + 1))
 done
-for text in "$cases"/*; do
-    echo "== $(basename "$text")"
-    "$STANDIN/programs/$(basename "$PWD")" "$@" < "$text"
-    echo "case=$(basename "$text") run=ended status=$? runners=1 proved=no" >&2
-done
+cd "$room"
+"$STANDIN/programs/$name" "$@"
+echo "run=ended status=$? runners=1 proved=no" >&2
+rm -r "$room"
 """
 
 
@@ -208,7 +209,7 @@ def try_mistakes(tally: Tally, room: Room) -> None:
         "--proof dot good.txt 8": "`--proof` takes one text, not 2 files",
         "--check --file a good.txt 8": "`--file` names one text, not 2 files",
         "--build 8": "`--build` takes no other argument",
-        "8 --build": "`--build` takes no other argument",
+        "8 --build": "`--build` is no option",
         "- -": "standard input is read once, and is named twice",
         "--with - -": "standard input is read once, and is named twice",
         "--with -": "standard input is read once, and is named twice",
@@ -216,9 +217,6 @@ def try_mistakes(tally: Tally, room: Room) -> None:
     for words, message in mistakes.items():
         ended = room.run(words)
         tally.expect(f"the words '{words}'", ended.is_like(2, "", f"celtisdarts: {message}{HELP_OFFERED}"), ended)
-        if not re.search("--(build|with|proof)", words):
-            ended = run(words.split(), cwd=room.path, script=program_of("celtisdarts"))
-            tally.expect(f"the program's words '{words}'", ended.is_like(2, "", f"celtisdarts: {message} (--help lists the options)\n"), ended)
     ended = run(["8", ""], cwd=room.path)
     tally.expect("an empty word", ended.is_like(2, "", "celtisdarts: an empty argument names no file" + HELP_OFFERED), ended)
     ended = run(["--\x1b[31m\n"], cwd=room.path)
@@ -237,9 +235,10 @@ def try_program(tally: Tally, room: Room, folder: Path) -> None:
     script = folder / "celtisdarts"
     ended = run(["mixed.txt"], cwd=folder, script=script)
     tally.expect("the program on a file", ended.is_like(0, MIXED_ANSWER), ended)
-    for words in ("--explain mixed.txt", "--explain --json --color always mixed.txt", "7 mixed.txt --explain --file=a", "-- mixed.txt mixed.txt"):
+    for words in ("--explain mixed.txt", "--explain --json --color always mixed.txt", "7 mixed.txt --explain --file=a", "-- mixed.txt mixed.txt",
+                  "--proof dot mixed.txt", "--with mixed.txt mixed.txt"):
         ended = run(words.split(), cwd=folder, script=script)
-        tally.expect(f"the program's words '{words}'", ended == run(words.split(), cwd=folder) and ended.status == 0, ended)
+        tally.expect(f"the program's words '{words}'", ended == run(words.split(), cwd=folder) and ended.status in (0, 1), ended)
     for words in (["--check", "mixed.txt"], ["--explain", "--check", "mixed.txt"]):
         tally.expect(f"the program's words {words}", run(words, cwd=folder, script=script).status == 4, "another status than 4")
     for word in ("--help", "-h", "--version", "-V"):
@@ -261,8 +260,8 @@ def try_refused_files(tally: Tally, room: Room) -> None:
         "--with folder good.txt": "folder: is a folder",
         "--explain nosuch": "nosuch: no such file",
         "--check nosuch": "nosuch: no such file",
-        "--check /proc/self/mem": "/proc/self/mem: could not be read or kept",
-        "--with /proc/self/mem good.txt": "/proc/self/mem: could not be read or kept",
+        "--check /proc/self/mem": "/proc/self/mem: could not be read",
+        "--with /proc/self/mem good.txt": "/proc/self/mem: could not be read",
         "/proc/self/mem": "/proc/self/mem: could not be read",
     }
     for words, reason in reasons.items():
@@ -535,19 +534,6 @@ def try_proof(tally: Tally, room: Room) -> None:
     tally.expect("a picture of no proof", ended.status == 0 and "label" not in ended.output and ended.output.endswith("}\n"), ended)
 
 
-def try_without_python(tally: Tally, room: Room, folder: Path) -> None:
-    """A PATH without Python serves all but --explain with --with. (Where the system's own PATH has it, that serves.)"""
-    folder.mkdir()
-    for name in ("awk", "cat", "find", "grep", "head", "mktemp", "readlink", "rm", "sed", "sh", "sha256sum", "sort", "tail", "tr", "uname", "wc", "mkdir"):
-        (folder / name).symlink_to(shutil.which(name) or name)
-    for words in ("good.txt", "--check good.txt", "--with front.txt --check good.txt", "--explain --check good.txt"):
-        ended = run(words.split(), cwd=room.path, env={"PATH": str(folder)})
-        tally.expect(f"without Python, '{words}'", ended.status == 0 and ended.errors == "", ended)
-    ended = run(["--explain", "--with", "front.txt", "good.txt"], cwd=room.path, env={"PATH": str(folder)})
-    message = "celtisdarts: --explain and --with together need the command 'python3'\n"
-    tally.expect("without Python, --explain and --with", ended.status == 0 or ended.is_like(3, "", message), ended)
-
-
 # ---- colours, terminals, and what is refused
 
 
@@ -599,7 +585,8 @@ def try_refused_output(tally: Tally, room: Room) -> None:
         tally.expect(f"a pipe without a reader, '{words}'", ended.is_like(3, ""), ended)
     for words, message in {"8 <&-": "standard input: is closed", "8 < .": "standard input: is a folder",
                         "8 good.txt >&-": "good.txt: no whole answer: standard output is closed", "8 < good.txt >&-":
-                        "standard input: no whole answer: standard output is closed", "--check good.txt >&-": "standard output could not be written"}.items():
+                        "standard input: no whole answer: standard output is closed", "--check good.txt >&-":
+                        "good.txt: no whole answer: standard output is closed"}.items():
         done = subprocess.run(["sh", "-c", f"{SCRIPT} {words}"], cwd=room.path, stdout=subprocess.PIPE, stderr=subprocess.PIPE, text=True, check=False)
         tally.expect(f"'{words}'", (done.returncode, done.stdout, done.stderr) == (3, "", f"celtisdarts: {message}\n"), done)
 
@@ -636,13 +623,12 @@ def make_unbuilt(folder: Path) -> dict[str, str]:
 def try_unbuilt(tally: Tally, room: Room, folder: Path) -> None:
     env = make_unbuilt(folder)
     script = folder / "clone" / "celtisdarts"
-    compiling = "celtisdarts: compiling for this one call, which takes minutes; ./celtisdarts --build makes the proved programs once\n"
-    for words, times in {"mixed.txt": 1, "good.txt mixed.txt": 1, "8 --check mixed.txt": 1, "8 --with front.txt body.txt": 1, "--explain mixed.txt": 1,
-                         "--explain --json mixed.txt": 1, "--explain good.txt mixed.txt": 2, "--explain --check --with front.txt body.txt good.txt": 2,
-                         "--with front.txt fault.txt": 1}.items():
+    compiling = "celtisdarts: compiling for this one call, which takes minutes; ./celtisdarts --build makes the proved program once\n"
+    for words in ("mixed.txt", "good.txt mixed.txt", "8 --check mixed.txt", "8 --with front.txt body.txt", "--explain --json mixed.txt",
+                  "--explain --check --with=front.txt body.txt good.txt", "--with front.txt fault.txt", "--jsno", "nosuch"):
         built, ended = room.run(words), run(words.split(), script=script, cwd=room.path, env=env)
         tally.expect(f"unbuilt, '{words}'", (ended.status, ended.output) == (built.status, built.output), ended)
-        tally.expect(f"unbuilt, '{words}', the messages", ended.errors.count(compiling) == times and ended.errors.replace(compiling, "") == built.errors, ended)
+        tally.expect(f"unbuilt, '{words}', the messages", ended.errors == compiling + built.errors, ended)
     printed = run(["--version"], script=script, env=env).output
     tally.expect("unbuilt, --version", "program: none; each call compiles it\ntoolchain: a toolchain\n" in printed and "of an unknown commit" in printed, printed)
     printed = run(["--help"], script=script, env=env).output
@@ -684,5 +670,4 @@ def check(common_tally: common.Tally, _: argparse.Namespace) -> None:
         try_terminal(tally, room)
         try_full_device(tally, room)
         try_refused_output(tally, room)
-        try_without_python(tally, room, Path(second) / "commands")
         try_unbuilt(tally, room, Path(second))

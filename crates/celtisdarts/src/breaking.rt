@@ -71,7 +71,7 @@ pub(crate) fn breaking(
 ) -> Result<Diagnostic, AllocError> {
     let found = texts.lines.added_impl(section, number);
     let line = match found {
-        Some(found) => Piece::Number(found.line as usize),
+        Some(found) => Piece::Line(texts.file.own_line(found.line)),
         None => Piece::Text(""),
     };
     let message = with_two(

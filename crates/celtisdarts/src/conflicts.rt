@@ -49,7 +49,7 @@ struct LaterPairs {
 
 /// The message for a pair that overlaps, with the lines of the impls: an impl of `core` has none.
 pub(crate) fn pair_said<'s>(
-    texts: Texts<'_>,
+    texts: Texts<'s>,
     pair: Pair,
     common: &'s Spoken,
     is_first: bool,
@@ -68,8 +68,8 @@ pub(crate) fn pair_said<'s>(
             [
                 bound,
                 subject,
-                Piece::Number(earlier.line as usize),
-                Piece::Number(later.line as usize),
+                Piece::Line(texts.file.own_line(earlier.line)),
+                Piece::Line(texts.file.own_line(later.line)),
             ],
         ),
         (Some(later), None) => with_three(
@@ -80,7 +80,7 @@ pub(crate) fn pair_said<'s>(
             },
             bound,
             subject,
-            Piece::Number(later.line as usize),
+            Piece::Line(texts.file.own_line(later.line)),
         ),
         _ => with_two(
             "conflicting implementations of trait `{}` for type `{}`",

@@ -18,7 +18,7 @@ pub enum Failure {
 #[derive(Clone, Copy)]
 pub struct Ending {
     pub status: Status,
-    /// Whether `--check` is given, and some answer is not the best of its kind.
+    /// Whether `--check` is given, and some answer is not the expected one.
     pub is_refused: bool,
 }
 

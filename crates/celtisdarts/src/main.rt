@@ -6,12 +6,13 @@
 //! - 1: the text has a fault.
 //! - 2: the arguments are wrong.
 //! - 3: reading, writing or memory failed, or a table was full, before all answers were written.
-//! - 4: with `--check`, some answer is not the best of its kind.
+//! - 4: with `--check`, some answer is not the expected one.
 //!
 //! Of several texts it is the greatest.
 #![tactic(auto)]
 
 mod answering;
+mod asking;
 mod breaking;
 mod checks;
 mod conflicts;
@@ -19,6 +20,7 @@ mod ending;
 mod explaining;
 mod lines;
 mod overlaps;
+mod picture;
 mod places;
 mod printed;
 mod proofs;
@@ -27,8 +29,9 @@ mod reasons;
 mod saying;
 mod spending;
 mod supertraits;
+mod texts;
 
-use crate::answering::answer_texts;
+use crate::answering::answer_request;
 use crate::ending::{DONE, Ending, Failure, exit_status};
 use crate::saying::{say, say_unwritten};
 use coherence::RunFault;
@@ -94,7 +97,7 @@ fn answer(rt: &HostRuntime) -> Result<Ending, Failure> {
     match read_words(rt.alloc(), &words, rt.stdin().is_terminal()) {
         Ok(Command::Help) => print(rt, HELP),
         Ok(Command::Version) => print(rt, VERSION),
-        Ok(Command::Answer(request)) => answer_texts(rt, &request),
+        Ok(Command::Answer(request)) => answer_request(rt, &request),
         Err(Refusal::Memory) => Err(refuse_memory(rt)),
         Err(Refusal::Mistake(mistake)) => {
             let _said = eprintln!(rt; "celtisdarts: {mistake} (--help lists the options)");

@@ -170,7 +170,7 @@ impl ToldProof<'_> {
     }
 
     /// The sentence for a rule by which the search has a goal.
-    fn searched_said(&self, place: usize) -> Sentence<'static> {
+    fn searched_said(&self, place: usize) -> Sentence<'_> {
         match self.story.candidates(place).first() {
             Some(candidate) => with_one(
                 "{}, not checked",
@@ -181,7 +181,7 @@ impl ToldProof<'_> {
     }
 
     /// The sentence for a reason.
-    fn reason_said(&self, reason: Reason) -> Sentence<'static> {
+    fn reason_said(&self, reason: Reason) -> Sentence<'_> {
         match reason {
             Reason::Impl(id) => with_one("{}", impl_piece(self.story.texts, id)),
             Reason::Searched(place) => self.searched_said(place),

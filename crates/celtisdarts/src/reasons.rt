@@ -1,71 +1,64 @@
-//! The answer to a text with the reasons.
+//! The answer to a text that is kept in memory, with the reasons if they are asked for.
 
-ghost use Rattle.std.specs.Prelude.{◌≡◌, ◌&&◌, [], not, IfOk};
+ghost use Rattle.std.specs.Prelude.{◌≡◌, [], IfOk, Ok};
 ghost use Rattle.coherence.specs.Promised.Told.{IsToldText};
 
-use crate::ending::Ending;
 use crate::explaining::Explaining;
-use crate::printed::{Explanations, Lack, Shown, Told, write_told};
+use crate::printed::{Explanations, Kept, Lack, write_told};
 use coherence::{Limits, RunFault, Status, answer_text, run};
+use command_line::How;
 use explain_texts::explain_diagnostics::SourceFile;
 use std::alloc::Global;
 use std::io::Write;
 
-/// A text that is explained, and how.
-#[derive(Clone, Copy)]
-pub struct Explained<'t> {
-    /// The name of the text in explanations.
-    pub name: &'t str,
-    pub text: &'t [u8],
-    pub limits: Limits,
-    pub shown: Shown,
-    /// Whether the ending says if each answer is the best of its kind.
-    pub is_check: bool,
-}
-
-/// How the answers are, by how the run ended and what was printed.
-fn ending_of(ran: Result<Status, RunFault>, is_check: bool, told: Told) -> Result<Ending, RunFault>
-    ensures status { IfOk result (λ ending. IfOk ran (λ status. ending.status ≡ status)) }
-    ensures refused { IfOk result (λ ending. ending.is_refused ≡ (is_check && not told.are_best)) }
+/// A run whose lines go into memory: a writer there fails if memory is refused.
+fn in_memory(ran: Result<Status, RunFault>) -> Result<Status, RunFault>
+    ensures { IfOk result (λ status. ran ≡ Ok status) }
 {
-    let status = ran?;
-    Ok(Ending {
-        status,
-        is_refused: is_check && !told.are_best,
-    })
-}
-
-/// Writes the lines of the output, each with its explanation.
-fn tell<W: Write>(
-    alloc: Global,
-    writer: &mut W,
-    explained: Explained<'_>,
-    ran: Result<Status, RunFault>,
-    lines: &[u8],
-    explanations: Explanations<'_>,
-) -> Result<Ending, RunFault> {
-    match write_told(alloc, writer, explained.shown, lines, explanations) {
-        Err(_) => Err(RunFault::Write),
-        Ok(told) => ending_of(ran, explained.is_check, told),
+    match ran {
+        Err(RunFault::Write) => Err(RunFault::Memory),
+        _ => ran,
     }
 }
 
-/// Answers a text whose explanations have no room.
+/// Writes the lines of the output, each with its explanation. A line that was asked has its answer or none.
+fn tell<W: Write>(
+    alloc: Global,
+    writer: &mut W,
+    kept: Kept<'_>,
+    ran: Result<Status, RunFault>,
+    lines: &[u8],
+    explanations: Explanations<'_>,
+) -> Result<Status, RunFault>
+    ensures { IfOk result (λ status. ran ≡ Ok status) }
+{
+    if kept.is_asked && ran.is_err() {
+        return ran;
+    }
+    write_told(alloc, writer, kept, lines, explanations)?;
+    ran
+}
+
+/// Answers a text without explanations, since none are asked for, or what lacks is what they would take.
 fn answer_alone<W: Write>(
     alloc: Global,
     writer: &mut W,
-    explained: Explained<'_>,
-) -> Result<Ending, RunFault> {
-    let mut reader = explained.text;
-    let mut lines = Vec::new(alloc);
-    let ran = run(alloc, &mut reader, &mut lines, explained.limits);
+    kept: Kept<'_>,
+    lines: &mut Vec<u8>,
+    lack: Option<Lack>,
+) -> Result<Status, RunFault>
+    requires { lines.old.items ≡ [] }
+    ensures { IfOk result (λ status. IsToldText kept.entry.limits.depth kept.entry.text.now status lines.new.items) }
+{
+    let mut reader = kept.text;
+    let ran = in_memory(run(alloc, &mut reader, lines, kept.limits));
     let explanations = Explanations {
         file: None,
         found: &[],
         further: &[],
-        lack: Some(Lack::Memory),
+        lack,
     };
-    tell(alloc, writer, explained, ran, &lines, explanations)
+    tell(alloc, writer, kept, ran, lines, explanations)
 }
 
 /// What was missing if a run in memory stopped so.
@@ -94,31 +87,36 @@ fn explain_lines(
             explaining.end(lack_of(fault));
             lines.clear();
             let mut reader = text;
-            run(alloc, &mut reader, lines, limits)
+            in_memory(run(alloc, &mut reader, lines, limits))
         }
     }
 }
 
-/// Answers a text. All lines are made and explained first, and then they are written.
-pub fn answer_explained<W: Write>(
+/// Answers a text. All lines are made first, with what explains them, and then they are written.
+pub fn answer_kept<W: Write>(
     alloc: Global,
     writer: &mut W,
-    explained: Explained<'_>,
-) -> Result<Ending, RunFault> {
-    let text = explained.text;
-    let Ok(file) = SourceFile::new(alloc, explained.name, text) else {
-        return answer_alone(alloc, writer, explained);
+    kept: Kept<'_>,
+    lines: &mut Vec<u8>,
+) -> Result<Status, RunFault>
+    requires { lines.old.items ≡ [] }
+    ensures { IfOk result (λ status. IsToldText kept.entry.limits.depth kept.entry.text.now status lines.new.items) }
+{
+    if kept.how == How::Plain {
+        return answer_alone(alloc, writer, kept, lines, None);
+    }
+    let Ok(file) = SourceFile::new(alloc, kept.parts, kept.text) else {
+        return answer_alone(alloc, writer, kept, lines, Some(Lack::Memory));
     };
-    let Ok(mut explaining) = Explaining::new(alloc, text, &file) else {
-        return answer_alone(alloc, writer, explained);
+    let Ok(mut explaining) = Explaining::new(alloc, kept.text, &file) else {
+        return answer_alone(alloc, writer, kept, lines, Some(Lack::Memory));
     };
-    let mut lines = Vec::new(alloc);
-    let ran = explain_lines(alloc, text, explained.limits, &mut lines, &mut explaining);
+    let ran = explain_lines(alloc, kept.text, kept.limits, lines, &mut explaining);
     let explanations = Explanations {
         file: Some(&file),
         found: &explaining.lines,
         further: &explaining.further,
         lack: explaining.lack,
     };
-    tell(alloc, writer, explained, ran, &lines, explanations)
+    tell(alloc, writer, kept, ran, lines, explanations)
 }

@@ -51,14 +51,12 @@ impl fmt::Display for Unread {
     }
 }
 
-/// A reader, and what is known of its bytes and of its last error.
+/// A reader, and the reason of its last error.
 #[derive(Drop)]
 pub struct Input<R: Read> {
     inner: R,
     /// The reason of the last error, if there was one.
     pub failure: Option<Unread>,
-    /// Whether a byte 0 was read.
-    pub has_zero: bool,
 }
 
 impl<R: Read> Input<R> {
@@ -66,7 +64,6 @@ impl<R: Read> Input<R> {
         Input {
             inner,
             failure: None,
-            has_zero: false,
         }
     }
 }
@@ -76,13 +73,8 @@ impl<R: Read> Read for Input<R> {
 
     fn read(&mut self, buf: &mut [u8]) -> io::Result<usize> {
         let read = self.inner.read(buf);
-        match &read {
-            Ok(count) => {
-                if buf[..*count].contains(&0) {
-                    self.has_zero = true;
-                }
-            }
-            Err(error) => self.failure = Some(Unread::of_error(error)),
+        if let Err(error) = &read {
+            self.failure = Some(Unread::of_error(error));
         }
         read
     }

@@ -20,6 +20,19 @@ pub enum How {
     Explained,
     /// The same as JSON, one object per line.
     Json,
+    /// The proofs alone, as a picture for the command `dot`.
+    Dot,
+}
+
+/// What is answered.
+#[derive(Clone, Copy)]
+pub enum Asked<'w> {
+    /// Each text.
+    Texts,
+    /// Each text, and the exit status says if each answer is the expected one.
+    Checks,
+    /// Lines of standard input, after the one text: a bound alone in this crate.
+    Lines(Option<&'w str>),
 }
 
 /// A call for answers.
@@ -29,10 +42,11 @@ pub struct Request<'w> {
     pub depth: u32,
     pub how: How,
     pub color: ColorConfig,
-    /// Whether the exit status says if each answer is the expected one.
-    pub is_check: bool,
+    pub asked: Asked<'w>,
     /// The name of the text in messages, if it is not that of its file.
     pub title: Option<&'w str>,
+    /// The files in front of each text, in their order.
+    pub fronts: Vec<&'w str>,
     /// The files of the texts, in their order. `-` is standard input.
     pub texts: Vec<&'w str>,
     ghost deep: { 1 ≤ depth },

@@ -1,14 +1,14 @@
-//! Arguments as a terminal may show them.
+//! Words of a call and of a text as a terminal may show them.
 
 use std::fmt;
 
-/// An argument that is printed for a terminal: each byte that is no printable ASCII is `?`, as in the lines of a text.
+/// Bytes that are printed for a terminal: each that is no printable ASCII is `?`, as in the lines of a text.
 #[derive(Clone, Copy, Drop)]
-pub struct Shown<'w>(pub &'w str);
+pub(crate) struct ShownBytes<'w>(pub &'w [u8]);
 
-impl fmt::Display for Shown<'_> {
+impl fmt::Display for ShownBytes<'_> {
     fn fmt<W: fmt::Write>(&self, f: &mut fmt::Formatter<W>) -> fmt::Result {
-        for byte in self.0.as_bytes() {
+        for byte in self.0 {
             let shown = if byte.is_ascii_graphic() || *byte == b' ' {
                 *byte
             } else {
@@ -17,5 +17,15 @@ impl fmt::Display for Shown<'_> {
             f.write_char(char::from(shown))?;
         }
         Ok(())
+    }
+}
+
+/// An argument that is printed for a terminal, in the same way.
+#[derive(Clone, Copy, Drop)]
+pub struct Shown<'w>(pub &'w str);
+
+impl fmt::Display for Shown<'_> {
+    fn fmt<W: fmt::Write>(&self, f: &mut fmt::Formatter<W>) -> fmt::Result {
+        fmt::Display::fmt(&ShownBytes(self.0.as_bytes()), f)
     }
 }

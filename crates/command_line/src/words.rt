@@ -5,7 +5,7 @@ ghost use Rattle.command_line.specs.declared.words.Refusal.TheVariants.{Memory};
 
 use crate::depths::parse_depth;
 use crate::mistake::Mistake;
-use crate::request::{ColorConfig, Command, How, Request};
+use crate::request::{Asked, ColorConfig, Command, How, Request};
 use std::alloc::{AllocError, Global};
 
 /// Why arguments give no command.
@@ -38,6 +38,8 @@ const DEPTH: u32 = 128;
 enum Valued {
     Color,
     File,
+    Proof,
+    With,
 }
 
 impl Valued {
@@ -45,6 +47,8 @@ impl Valued {
         match self {
             Valued::Color => "--color",
             Valued::File => "--file",
+            Valued::Proof => "--proof",
+            Valued::With => "--with",
         }
     }
 
@@ -52,6 +56,8 @@ impl Valued {
         match name {
             "--color" => Some(Valued::Color),
             "--file" => Some(Valued::File),
+            "--proof" => Some(Valued::Proof),
+            "--with" => Some(Valued::With),
             _ => None,
         }
     }
@@ -81,11 +87,14 @@ struct Reading<'w> {
     has_depth: bool,
     explains: bool,
     is_json: bool,
+    is_dot: bool,
     color: Option<ColorConfig>,
     is_check: bool,
+    asks: bool,
     title: Option<&'w str>,
     /// Whether standard input was named.
     has_input: bool,
+    fronts: Vec<&'w str>,
     texts: Vec<&'w str>,
     ghost deep: { 1 ≤ depth },
     ghost limited: { depth ≤ 255 },
@@ -104,10 +113,13 @@ impl<'w> Reading<'w> {
             has_depth: false,
             explains: false,
             is_json: false,
+            is_dot: false,
             color: None,
             is_check: false,
+            asks: false,
             title: None,
             has_input: false,
+            fronts: Vec::new(alloc),
             texts: Vec::new(alloc),
         }
     }
@@ -142,13 +154,22 @@ impl<'w> Reading<'w> {
     }
 
     /// Reads the value of an option.
-    fn take_value(&mut self, option: Valued, word: &'w str) -> Result<(), Mistake<'w>> {
+    fn take_value(&mut self, option: Valued, word: &'w str) -> Result<(), Refusal<'w>> {
         match (option, word) {
             (Valued::Color, "auto") => self.color = Some(ColorConfig::Auto),
             (Valued::Color, "always") => self.color = Some(ColorConfig::Always),
             (Valued::Color, "never") => self.color = Some(ColorConfig::Never),
-            (Valued::Color, _) => return Err(Mistake::NoColor(word)),
+            (Valued::Color, _) => return Err(Refusal::Mistake(Mistake::NoColor(word))),
             (Valued::File, _) => self.title = Some(word),
+            (Valued::Proof, "dot") => {
+                self.is_dot = true;
+                self.explains = true;
+            }
+            (Valued::Proof, _) => return Err(Refusal::Mistake(Mistake::NoPicture(word))),
+            (Valued::With, _) => {
+                self.take_name(word)?;
+                self.fronts.push(word).map_err(AllocError::from)?;
+            }
         }
         Ok(())
     }
@@ -171,6 +192,7 @@ impl<'w> Reading<'w> {
             "--explain" => self.explains = true,
             "--json" => self.is_json = true,
             "--check" => self.is_check = true,
+            "--ask" => self.asks = true,
             "--" => self.awaits = Awaits::File,
             _ => {
                 if word.len() > 1 && word.as_bytes().starts_with(b"-") {
@@ -201,7 +223,9 @@ impl<'w> Reading<'w> {
 
     /// In which form answers are given.
     fn how(&self) -> How {
-        if self.is_json {
+        if self.is_dot {
+            How::Dot
+        } else if self.is_json {
             How::Json
         } else if self.explains {
             How::Explained
@@ -221,20 +245,50 @@ impl<'w> Reading<'w> {
         if !self.explains && self.color.is_some() {
             return Err(Mistake::NeedsExplain("--color"));
         }
+        Ok(())
+    }
+
+    /// Fails if options do not go with several texts.
+    fn judge_count(&self) -> Result<(), Mistake<'w>> {
         let count = self.texts.len();
-        if count > 1 && self.is_json {
-            return Err(Mistake::OneObject(count));
+        if count <= 1 {
+            return Ok(());
         }
-        if count > 1 && self.title.is_some() {
+        if self.is_dot {
+            return Err(Mistake::OneText("--proof", count));
+        }
+        if self.is_json {
+            return Err(Mistake::OneText("--json", count));
+        }
+        if self.title.is_some() {
             return Err(Mistake::OneTitle(count));
         }
         Ok(())
     }
 
-    /// Without a file the text is on standard input. `at_terminal` says that nobody sends one there.
-    fn add_input(&mut self, at_terminal: bool) -> Result<(), Refusal<'w>>
+    /// Takes the crate of `--ask`, which comes after its text.
+    fn take_asked(&mut self) -> Result<Asked<'w>, Mistake<'w>>
         ensures { OnOk result (1 ≤ length self.new.texts.items) }
     {
+        if self.is_dot || self.is_check {
+            return Err(Mistake::AskWhole);
+        }
+        if self.has_input {
+            return Err(Mistake::AskInput);
+        }
+        match self.texts.len() {
+            0 => Err(Mistake::AskNothing),
+            1 => Ok(Asked::Lines(None)),
+            2 => Ok(Asked::Lines(self.texts.pop())),
+            count => Err(Mistake::AskMany(count)),
+        }
+    }
+
+    /// Without a file the text is on standard input. `at_terminal` says that nobody sends one there.
+    fn take_texts(&mut self, at_terminal: bool) -> Result<Asked<'w>, Refusal<'w>>
+        ensures { OnOk result (1 ≤ length self.new.texts.items) }
+    {
+        self.judge_count()?;
         if self.texts.is_empty() {
             if at_terminal {
                 return Err(Refusal::Mistake(Mistake::NoText));
@@ -242,13 +296,21 @@ impl<'w> Reading<'w> {
             self.take_name("-")?;
             self.texts.push("-").map_err(AllocError::from)?;
         }
-        Ok(())
+        Ok(if self.is_check {
+            Asked::Checks
+        } else {
+            Asked::Texts
+        })
     }
 
     /// What all arguments together ask for.
     fn ended(mut self, at_terminal: bool) -> Result<Request<'w>, Refusal<'w>> {
         self.judge_options()?;
-        self.add_input(at_terminal)?;
+        let asked = if self.asks {
+            self.take_asked()?
+        } else {
+            self.take_texts(at_terminal)?
+        };
         let how = self.how();
         let Reading {
             awaits: _,
@@ -256,18 +318,22 @@ impl<'w> Reading<'w> {
             has_depth: _,
             explains: _,
             is_json: _,
+            is_dot: _,
             color,
-            is_check,
+            is_check: _,
+            asks: _,
             title,
             has_input: _,
+            fronts,
             texts,
         } = self;
         Ok(Request {
             depth,
             how,
             color: color.unwrap_or(ColorConfig::Auto),
-            is_check,
+            asked,
             title,
+            fronts,
             texts,
         })
     }

@@ -1,6 +1,8 @@
 //! What a line of the answer says, as data.
 
 use crate::json::{Members, put_text};
+use crate::source::{OwnLine, Part, SourceFile, own_line};
+use crate::writer::TextWriter;
 use serde_json::{Map, Value, put};
 use std::alloc::{AllocError, Global};
 
@@ -67,24 +69,72 @@ fn put_detail<'t>(
     Ok(behind)
 }
 
+/// The line of a fault as it is displayed for a text with these files: `NAME: line N: fault K`, with the line as it counts in its own file,
+/// and without the name if that is the last one. `None` for any other line.
+pub fn own_fault(
+    alloc: Global,
+    parts: &[Part<'_>],
+    line: &str,
+) -> Result<Option<String>, AllocError> {
+    let Some(rest) = line.strip_prefix("line ") else {
+        return Ok(None);
+    };
+    let (number, fault) = cut_word(rest);
+    let Ok(number) = number.strip_suffix(':').unwrap_or(number).parse::<u32>() else {
+        return Ok(None);
+    };
+    let own = own_line(parts, number);
+    let mut out = TextWriter::new(alloc);
+    if !own.is_last {
+        out.push_shown(own.name.as_bytes());
+        out.push_str(": ");
+    }
+    out.push_number("line ", own.number as usize);
+    out.push_str(": ");
+    out.push_str(fault);
+    Ok(Some(out.finish()?))
+}
+
+/// Adds a line as it counts in its own file, and the name of that if it is not the last one.
+fn put_own(alloc: Global, object: &mut Members, own: OwnLine<'_>) -> Result<(), AllocError> {
+    put(object, alloc, "line", Value::from(own.number))?;
+    if own.is_last {
+        Ok(())
+    } else {
+        put_text(alloc, object, "file", own.name)
+    }
+}
+
+/// Adds what is answered, as its crate or its number.
+fn put_subject(
+    alloc: Global,
+    object: &mut Members,
+    answered: &str,
+    subject: &str,
+    file: Option<&SourceFile<'_>>,
+) -> Result<(), AllocError> {
+    match (answered, file, subject.parse::<u32>()) {
+        ("line", Some(file), Ok(number)) => put_own(alloc, object, file.own_line(number)),
+        ("line", _, _) => put_word(alloc, object, "line", subject),
+        ("prove" | "refute", _, _) => put_word(alloc, object, "question", subject),
+        _ => put_word(alloc, object, "crate", subject),
+    }
+}
+
 /// Adds what an answer says: what is answered, by its crate or its number; of which kind the answer is; and what stands behind that, as
 /// numbers, names and values.
 pub(crate) fn put_answer(
     alloc: Global,
     object: &mut Members,
     line: &str,
+    file: Option<&SourceFile<'_>>,
 ) -> Result<(), AllocError> {
     let (answered, rest) = cut_word(line);
     let (subject, rest) = cut_word(rest);
     let (kind, rest) = cut_word(rest);
     let subject = subject.strip_suffix(':').unwrap_or(subject);
-    let key = match answered {
-        "prove" | "refute" => "question",
-        "line" => "line",
-        _ => "crate",
-    };
     put_text(alloc, object, "answered", answered)?;
-    put_word(alloc, object, key, subject)?;
+    put_subject(alloc, object, answered, subject, file)?;
     put_text(alloc, object, "kind", kind)?;
     if kind == "fault" {
         return put_word(alloc, object, kind, rest);

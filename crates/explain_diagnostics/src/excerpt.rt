@@ -317,13 +317,14 @@ impl LineView<'_> {
 fn push_line(
     out: &mut TextWriter,
     frame: Frame,
-    text: &[u8],
+    file: &SourceFile<'_>,
     level: Level,
     labels: &[SpanLabel],
     line: u32,
 ) {
+    let text = file.line(line);
     let view = view_of(labels, line, text.len(), frame.width());
-    let number = InlineText::<10>::of(line);
+    let number = InlineText::<10>::of(file.own_line(line).number);
     let row = text_row(frame, number.as_str().as_bytes(), text, view);
     row.push_to(out, frame.has_colors);
     let shown = LineView {
@@ -337,17 +338,17 @@ fn push_line(
     shown.push_marks(out);
 }
 
-/// Appends where a text is spoken of: ` --> NAME:LINE:COLUMN`, the name as bytes of the text are shown.
-fn push_place(out: &mut TextWriter, frame: Frame, name: &str, main: &SpanLabel) {
+/// Appends the place of a line behind an arrow: ` --> NAME:LINE`, the name as bytes of the text are shown.
+fn push_place(out: &mut TextWriter, frame: Frame, arrow: &str, file: &SourceFile<'_>, line: u32) {
     out.push_spaces(frame.digits);
-    push_in(out, frame.has_colors, Ink::Frame, "--> ");
-    out.push_shown(name.as_bytes());
-    out.push_number(":", main.span.line as usize);
-    out.push_number(":", main.span.start.saturating_add(1));
-    out.push_str("\n");
+    push_in(out, frame.has_colors, Ink::Frame, arrow);
+    let own = file.own_line(line);
+    out.push_shown(own.name.as_bytes());
+    out.push_number(":", own.number as usize);
 }
 
-/// Appends the lines of the labels, each once, with marks. Without labels it appends nothing.
+/// Appends the lines of the labels, each once, with marks. A line of another file than the one before comes below the name of its file.
+/// Without labels it appends nothing.
 pub(crate) fn push_excerpt(
     out: &mut TextWriter,
     frame: Frame,
@@ -358,8 +359,11 @@ pub(crate) fn push_excerpt(
     let Some(main) = main_label(labels) else {
         return;
     };
-    push_place(out, frame, file.name(), main);
+    push_place(out, frame, "--> ", file, main.span.line);
+    out.push_number(":", main.span.start.saturating_add(1));
+    out.push_str("\n");
     frame.push_bar(out);
+    let mut shown = file.part(main.span.line).line;
     let mut last = 0;
     for _ in labels {
         let Some(line) = next_line(labels, last) else {
@@ -369,7 +373,13 @@ pub(crate) fn push_excerpt(
             push_in(out, frame.has_colors, Ink::Frame, "...");
             out.push_str("\n");
         }
-        push_line(out, frame, file.line(line), level, labels, line);
+        let first = file.part(line).line;
+        if first != shown {
+            push_place(out, frame, "::: ", file, line);
+            out.push_str("\n");
+            shown = first;
+        }
+        push_line(out, frame, file, level, labels, line);
         last = line;
     }
 }

@@ -115,7 +115,7 @@ fn put_lines(
     put(object, alloc, "text", Value::Array(lines))
 }
 
-/// Adds the position of a part of a line, after this many bytes of the text.
+/// Adds the position of a part of a line, after this many bytes of its file.
 fn put_place(
     alloc: Global,
     object: &mut Members,
@@ -147,8 +147,10 @@ fn put_span(
     let number = label.span.line;
     let line = file.line(number);
     let place = place_in(&label.span, line.len());
-    put_text(alloc, object, "file_name", file.name())?;
-    put_place(alloc, object, number, file.line_start(number), place)?;
+    let part = file.part(number);
+    let before = file.line_start(number).saturating_sub(part.start);
+    put_text(alloc, object, "file_name", part.name)?;
+    put_place(alloc, object, file.own_line(number).number, before, place)?;
     put_lines(alloc, object, line, place)?;
     put(object, alloc, "is_primary", Value::Bool(label.is_primary))?;
     put_text_or_null(alloc, object, "label", label.label.as_str())?;
@@ -382,9 +384,13 @@ fn put_diagnostic(
 }
 
 /// What a line of the answer says.
-fn answer_value(alloc: Global, answer: &str) -> Result<Value, AllocError> {
+fn answer_value(
+    alloc: Global,
+    answer: &str,
+    file: Option<&SourceFile<'_>>,
+) -> Result<Value, AllocError> {
     let mut object = Map::new(alloc);
-    put_answer(alloc, &mut object, answer)?;
+    put_answer(alloc, &mut object, answer, file)?;
     Ok(Value::Object(object))
 }
 
@@ -403,7 +409,11 @@ fn object_text(
     };
     put_text(alloc, &mut object, "$message_type", kind)?;
     put_text(alloc, &mut object, "answer", answer)?;
-    let parts = answer_value(alloc, line)?;
+    let file = match told {
+        Some((file, _)) => Some(file),
+        None => None,
+    };
+    let parts = answer_value(alloc, line, file)?;
     put(&mut object, alloc, "parts", parts)?;
     if let Some((file, diagnostic)) = told {
         put_diagnostic(alloc, &mut object, file, line, diagnostic)?;
@@ -413,15 +423,16 @@ fn object_text(
 
 /// A line of the answer as a line of JSON without its end, with its diagnostic if it has one: then with the keys that rustc writes.
 ///
-/// `answer` is the line, and `parts` what it says. `rendered` is the text for people, without colours, with an empty line behind it. A proof
+/// `answer` is the line as it is displayed, and `parts` what `line` says. `rendered` is the text for people, without colours, with an empty line behind it. A proof
 /// is the first child, with its rows whole, and `proof` its trees. Of a span's line at most 1,000 bytes are there, and what is marked lies in
 /// these.
 pub fn json_line(
     alloc: Global,
     answer: &str,
+    line: &str,
     told: Option<(&SourceFile<'_>, &Diagnostic)>,
 ) -> Result<String, AllocError> {
-    object_text(alloc, answer, answer, told)
+    object_text(alloc, answer, line, told)
 }
 
 /// The same of a fault that is no line of the answer: `answer` is empty, and `parts` is what `fault` says.

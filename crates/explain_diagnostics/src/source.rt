@@ -5,27 +5,92 @@ ghost use Rattle.std.specs.Prelude.{◌≡◌, ◌≤◌};
 use crate::span::Place;
 use std::alloc::{AllocError, Global};
 
-/// A text with its name, and where each of its lines is. rustc: `SourceFile`.
+/// A file of a text, which one or more files make up, one after the other.
+#[derive(Clone, Copy)]
+pub struct Part<'t> {
+    /// The number of its first line in the text, counted from 1.
+    pub line: u32,
+    /// How many bytes of the text are before it.
+    pub start: usize,
+    pub name: &'t str,
+}
+
+/// A line of a text, as it counts in its own file.
+#[derive(Clone, Copy)]
+pub struct OwnLine<'t> {
+    /// Its number in the text.
+    pub line: u32,
+    /// Its number in its file.
+    pub number: u32,
+    /// The name of its file.
+    pub name: &'t str,
+    /// Whether that is the last one of the text, which needs no name in a sentence.
+    pub is_last: bool,
+}
+
+/// The file of a line: the last one that begins at it or before.
+fn part_of<'t>(parts: &[Part<'t>], line: u32) -> Part<'t> {
+    let mut found = Part {
+        line: 1,
+        start: 0,
+        name: "",
+    };
+    for part in parts {
+        if part.line <= line {
+            found = *part;
+        }
+    }
+    found
+}
+
+/// A line of a text with these files.
+pub fn own_line<'t>(parts: &[Part<'t>], line: u32) -> OwnLine<'t>
+    ensures { result.line ≡ line }
+{
+    let part = part_of(parts, line);
+    let is_last = match parts.last() {
+        Some(last) => last.line == part.line,
+        None => true,
+    };
+    OwnLine {
+        line,
+        number: line.saturating_add(1).saturating_sub(part.line),
+        name: part.name,
+        is_last,
+    }
+}
+
+/// A text, its files, and where each of its lines is. rustc: `SourceFile`.
 #[derive(Drop)]
 pub struct SourceFile<'t> {
-    name: String,
+    parts: &'t [Part<'t>],
     src: &'t [u8],
     /// The ranges of lines, without their ends.
     lines: Vec<Place>,
 }
 
 impl<'t> SourceFile<'t> {
-    /// The lines of a text. Each ends with a line feed, and the last one may have none. The name is printed in `--> NAME:LINE:COLUMN`.
-    /// Fails only if memory is refused.
-    pub fn new(alloc: Global, name: &str, src: &'t [u8]) -> Result<SourceFile<'t>, AllocError> {
-        let name = String::from_str(alloc, name)?;
+    /// The lines of a text. Each ends with a line feed, and the last one may have none. The files are in their order. Their names are
+    /// printed in `--> NAME:LINE:COLUMN`. Fails only if memory is refused.
+    pub fn new(
+        alloc: Global,
+        parts: &'t [Part<'t>],
+        src: &'t [u8],
+    ) -> Result<SourceFile<'t>, AllocError> {
         let lines = line_places(alloc, src)?;
-        Ok(SourceFile { name, src, lines })
+        Ok(SourceFile { parts, src, lines })
     }
 
-    /// The text's name.
-    pub fn name(&self) -> &str {
-        self.name.as_str()
+    /// The file of the line with this number.
+    pub(crate) fn part(&self, number: u32) -> Part<'t> {
+        part_of(self.parts, number)
+    }
+
+    /// The line with this number, as it counts in its own file.
+    pub fn own_line(&self, number: u32) -> OwnLine<'t>
+        ensures { result.line ≡ number }
+    {
+        own_line(self.parts, number)
     }
 
     /// How many lines there are, with the empty one after the last line feed.

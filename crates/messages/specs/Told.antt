@@ -7,7 +7,7 @@ use Rattle.explain_diagnostics.specs.declared.diagnostic.ProofRow.{ProofRow}
 use Rattle.explain_diagnostics.specs.declared.diagnostic.SpanLabel.{SpanLabel}
 use Rattle.explain_diagnostics.specs.declared.diagnostic.Subdiagnostic.{Subdiagnostic}
 use Rattle.explain_diagnostics.specs.declared.span.Span.{Span}
-use Rattle.messages.specs.Written.{impl_line_of, piece_text, text_of}
+use Rattle.messages.specs.Written.{impl_line_of, piece_words, sentence_text}
 use Rattle.messages.specs.declared.sentences.Piece.{Piece}
 use Rattle.messages.specs.declared.sentences.Sentence.{Sentence}
 use Rattle.messages.specs.declared.telling.Telling.{Telling}
@@ -17,8 +17,8 @@ abbrev pub marks : List SpanLabel → List (Span × Bool)
 marks = map (λ (l : SpanLabel). (l.span, l.is_primary))
 
 -- What the labels of these parts say.
-abbrev pub labels : List SpanLabel → List (List ℕ)
-labels = map (λ (l : SpanLabel). string_bytes l.label)
+abbrev pub label_texts : List SpanLabel → List (List ℕ)
+label_texts = map (λ (l : SpanLabel). string_bytes l.label)
 
 -- A child as it is displayed: its level, what it says, which parts it marks, and with which labels.
 pub record Child : Type 0 where
@@ -28,10 +28,10 @@ pub record Child : Type 0 where
   pub labelled : List (List ℕ)
 
 abbrev pub child_of : Subdiagnostic → Child
-child_of c = record { level = c.level; says = string_bytes c.message; marked = marks c.spans.items; labelled = labels c.spans.items }
+child_of c = record { level = c.level; says = string_bytes c.message; marked = marks c.spans.items; labelled = label_texts c.spans.items }
 
-abbrev pub children : Diagnostic → List Child
-children d = map child_of d.children.items
+abbrev pub child_sentences : Diagnostic → List Child
+child_sentences d = map child_of d.children.items
 
 -- A row of a proof as it is displayed.
 pub record Row : Type 0 where
@@ -49,17 +49,17 @@ rows d = map row_of d.proof.items
 -- One mark with this label behind the others, and nothing else.
 pub record AddsMark (old new : Diagnostic) (span : Span) (is_primary : Bool) (label : List ℕ) : Type 0 where
   pub marked : marks new.spans.items ≡ marks old.spans.items ++ (span, is_primary) ∷ []
-  pub labelled : labels new.spans.items ≡ labels old.spans.items ++ label ∷ []
+  pub labelled : label_texts new.spans.items ≡ label_texts old.spans.items ++ label ∷ []
   pub rest : new ≡ record old { spans = new.spans }
 
 -- One child without marks behind the others, and nothing else.
 pub record AddsChild (old new : Diagnostic) (level : Level) (text : List ℕ) : Type 0 where
-  pub added : children new ≡ children old ++ record { level = level; says = text; marked = []; labelled = [] } ∷ []
+  pub added : child_sentences new ≡ child_sentences old ++ record { level = level; says = text; marked = []; labelled = [] } ∷ []
   pub rest : new ≡ record old { children = new.children }
 
 -- The row of a goal and of why it holds.
 abbrev pub told_row : ℕ → Piece → Sentence → Row
-told_row depth goal reason = record { depth = depth; goal = piece_text goal; reason = text_of reason; impl_line = impl_line_of reason }
+told_row depth goal reason = record { depth = depth; goal = piece_words goal; reason = sentence_text reason; impl_line = impl_line_of reason }
 
 -- One row behind the others, and nothing else.
 pub record AddsRow (old new : Diagnostic) (row : Row) : Type 0 where

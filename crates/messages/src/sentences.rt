@@ -6,10 +6,10 @@
 ghost use Rattle.std.specs.Prelude.{◌≡◌, ◌∷◌, [], map, true, string_bytes, IfOk};
 ghost use Rattle.explain_diagnostics.specs.Shown.{Appends};
 ghost use Rattle.messages.specs.Marked.{is_marked, says_unchecked};
-ghost use Rattle.messages.specs.Written.{Says, WritesByte, cut_name, impl_line_of, piece_text, text_of};
+ghost use Rattle.messages.specs.Written.{IsSentence, WritesByte, cut_name, impl_line_of, own_line_text, piece_words, sentence_text};
 
 use crate::names::Name;
-use explain_diagnostics::{TYPE_LIMIT, TextWriter};
+use explain_diagnostics::{OwnLine, TYPE_LIMIT, TextWriter};
 use std::alloc::{AllocError, Global};
 use std::slice::Iter;
 
@@ -20,10 +20,12 @@ pub enum Piece<'t> {
     /// A name of the text.
     Name(Name<'t>),
     Number(usize),
+    /// A line of the text, with its file if that is not the last one.
+    Line(OwnLine<'t>),
     /// A trait reference, by its self type and its bound.
     Reference(&'t str, &'t str),
     /// An impl of the text, by its line.
-    ImplAtLine(u32),
+    ImplAtLine(OwnLine<'t>),
     /// An impl of `core`, by its number there.
     ImplOfCore(u32),
 }
@@ -41,7 +43,7 @@ pub const NONE: Piece<'static> = Piece::Text("");
 /// A sentence without parts.
 pub fn plain(template: &'static str) -> Sentence<'static>
     ensures marks { is_marked result ≡ says_unchecked template.now }
-    ensures says { Says result template.now ([] ∷ [] ∷ [] ∷ [] ∷ []) }
+    ensures says { IsSentence result template.now ([] ∷ [] ∷ [] ∷ [] ∷ []) }
 {
     Sentence {
         template,
@@ -52,7 +54,7 @@ pub fn plain(template: &'static str) -> Sentence<'static>
 /// A sentence with one part.
 pub fn with_one<'t>(template: &'static str, first: Piece<'t>) -> Sentence<'t>
     ensures marks { is_marked result ≡ says_unchecked template.now }
-    ensures says { Says result template.now (piece_text first.entry ∷ [] ∷ [] ∷ [] ∷ []) }
+    ensures says { IsSentence result template.now (piece_words first.entry ∷ [] ∷ [] ∷ [] ∷ []) }
 {
     Sentence {
         template,
@@ -63,7 +65,7 @@ pub fn with_one<'t>(template: &'static str, first: Piece<'t>) -> Sentence<'t>
 /// A sentence with two parts.
 pub fn with_two<'t>(template: &'static str, first: Piece<'t>, second: Piece<'t>) -> Sentence<'t>
     ensures marks { is_marked result ≡ says_unchecked template.now }
-    ensures says { Says result template.now (piece_text first.entry ∷ piece_text second.entry ∷ [] ∷ [] ∷ []) }
+    ensures says { IsSentence result template.now (piece_words first.entry ∷ piece_words second.entry ∷ [] ∷ [] ∷ []) }
 {
     Sentence {
         template,
@@ -79,7 +81,7 @@ pub fn with_three<'t>(
     third: Piece<'t>,
 ) -> Sentence<'t>
     ensures marks { is_marked result ≡ says_unchecked template.now }
-    ensures says { Says result template.now (piece_text first.entry ∷ piece_text second.entry ∷ piece_text third.entry ∷ [] ∷ []) }
+    ensures says { IsSentence result template.now (piece_words first.entry ∷ piece_words second.entry ∷ piece_words third.entry ∷ [] ∷ []) }
 {
     Sentence {
         template,
@@ -90,7 +92,7 @@ pub fn with_three<'t>(
 /// A sentence with four parts.
 pub fn with_four<'t>(template: &'static str, pieces: [Piece<'t>; 4]) -> Sentence<'t>
     ensures marks { is_marked result ≡ says_unchecked template.now }
-    ensures says { Says result template.now (map piece_text pieces.entry) }
+    ensures says { IsSentence result template.now (map piece_words pieces.entry) }
 {
     Sentence { template, pieces }
 }
@@ -107,20 +109,35 @@ fn push_name(out: &mut TextWriter, name: &[u8], limit: usize)
     }
 }
 
+/// Appends a line as it counts in its own file, with the name of that if it is not the last one.
+fn push_own_line(out: &mut TextWriter, own: OwnLine<'_>)
+    ensures { Appends out.old out.new (own_line_text own.entry) }
+{
+    out.push_number("", own.number as usize);
+    if !own.is_last {
+        out.push_str(" of ");
+        out.push_shown(own.name.as_bytes());
+    }
+}
+
 /// Appends a part.
 fn push_piece(out: &mut TextWriter, piece: Piece<'_>)
-    ensures { Appends out.old out.new (piece_text piece.entry) }
+    ensures { Appends out.old out.new (piece_words piece.entry) }
 {
     match piece {
         Piece::Text(text) => out.push_str(text),
         Piece::Name(name) => push_name(out, name.bytes, TYPE_LIMIT),
         Piece::Number(number) => out.push_number("", number),
+        Piece::Line(own) => push_own_line(out, own),
         Piece::Reference(subject, bound) => {
             out.push_str(subject);
             out.push_str(": ");
             out.push_str(bound);
         }
-        Piece::ImplAtLine(line) => out.push_number("impl at line ", line as usize),
+        Piece::ImplAtLine(own) => {
+            out.push_str("impl at line ");
+            push_own_line(out, own);
+        }
         Piece::ImplOfCore(number) => {
             out.push_number("impl ", number as usize);
             out.push_str(" of `core`");
@@ -143,7 +160,7 @@ fn push_at(out: &mut TextWriter, byte: u8, pieces: &mut Iter<'_, Piece<'_>>)
 
 /// Appends a sentence.
 fn push_sentence(out: &mut TextWriter, sentence: Sentence<'_>)
-    ensures { Appends out.old out.new (text_of sentence.entry) }
+    ensures { Appends out.old out.new (sentence_text sentence.entry) }
 {
     let mut pieces = sentence.pieces.iter();
     let template = sentence.template.as_bytes();
@@ -157,7 +174,7 @@ pub(crate) fn impl_line_in(sentence: Sentence<'_>) -> Option<u32>
     ensures { result ≡ impl_line_of sentence.entry }
 {
     match sentence.pieces {
-        [Piece::ImplAtLine(line), ..] => Some(line),
+        [Piece::ImplAtLine(own), ..] => Some(own.line),
         _ => None,
     }
 }
@@ -165,7 +182,7 @@ pub(crate) fn impl_line_in(sentence: Sentence<'_>) -> Option<u32>
 /// A sentence as text. Fails only if memory is refused.
 #[tactic(auto, using(crate::proofs::MarkedTexts::marked_written))]
 pub fn sentence_text(alloc: Global, sentence: Sentence<'_>) -> Result<String, AllocError>
-    ensures text { IfOk result (λ t. string_bytes t ≡ text_of sentence.entry) }
+    ensures text { IfOk result (λ t. string_bytes t ≡ sentence_text sentence.entry) }
     ensures marked { is_marked sentence.entry ≡ true → IfOk result (λ t. says_unchecked (string_bytes t) ≡ true) }
 {
     let mut out = TextWriter::new(alloc);

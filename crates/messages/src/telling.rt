@@ -4,7 +4,7 @@ ghost use Rattle.std.specs.Prelude.{◌≡◌, [], false, true, string_bytes, If
 ghost use Rattle.std.specs.declared.result.Result.TheVariants.{Ok};
 ghost use Rattle.explain_diagnostics.specs.declared.diagnostic.Level.TheVariants.{Help, Note};
 ghost use Rattle.messages.specs.Told.{AddsChild, AddsMark, AddsRow, KeepsMessage, told_row};
-ghost use Rattle.messages.specs.Written.{text_of};
+ghost use Rattle.messages.specs.Written.{sentence_text};
 
 use crate::sentences::{Piece, Sentence, impl_line_in, plain, sentence_text, with_one};
 use explain_diagnostics::{Diagnostic, ErrCode, Level, ProofRow, Span, SpanLabel, Subdiagnostic};
@@ -41,7 +41,7 @@ impl Telling {
         ensures code { result.told.code ≡ code }
         ensures marks { result.told.spans.items ≡ [] }
         ensures rest { (result.told.proof.items ≡ []) × (result.told.children.items ≡ []) }
-        ensures text { result.is_refused ≡ false → string_bytes result.told.message ≡ text_of message.entry }
+        ensures text { result.is_refused ≡ false → string_bytes result.told.message ≡ sentence_text message.entry }
     {
         let (message, is_refused) = match sentence_text(alloc, message) {
             Ok(message) => (message, false),
@@ -93,8 +93,8 @@ impl Telling {
     }
 
     /// A sentence as text, if no request was refused.
-    fn text_of(&mut self, sentence: Sentence<'_>) -> Option<String>
-        ensures text { IfSome result (λ t. string_bytes t ≡ text_of sentence.entry) }
+    fn sentence_text(&mut self, sentence: Sentence<'_>) -> Option<String>
+        ensures text { IfSome result (λ t. string_bytes t ≡ sentence_text sentence.entry) }
         ensures refused { IfNone result (self.new.is_refused ≡ true) }
         ensures stays { OnSome result (self.old.is_refused ≡ false) }
         ensures told { self.new.told ≡ self.old.told }
@@ -108,10 +108,10 @@ impl Telling {
 
     /// Adds a mark with a label to the message.
     fn add_mark(&mut self, span: Span, is_primary: bool, label: Sentence<'_>)
-        ensures told { self.new.is_refused ≡ false → AddsMark self.old.told self.new.told span is_primary (text_of label.entry) }
+        ensures told { self.new.is_refused ≡ false → AddsMark self.old.told self.new.told span is_primary (sentence_text label.entry) }
         ensures stays { self.new.is_refused ≡ false → self.old.is_refused ≡ false }
     {
-        if let Some(label) = self.text_of(label) {
+        if let Some(label) = self.sentence_text(label) {
             let mark = SpanLabel {
                 span,
                 is_primary,
@@ -123,7 +123,7 @@ impl Telling {
 
     /// Marks what the message is about, with a label.
     pub fn mark(&mut self, span: Span, label: Sentence<'_>)
-        ensures told { self.new.is_refused ≡ false → AddsMark self.old.told self.new.told span true (text_of label.entry) }
+        ensures told { self.new.is_refused ≡ false → AddsMark self.old.told self.new.told span true (sentence_text label.entry) }
         ensures stays { self.new.is_refused ≡ false → self.old.is_refused ≡ false }
     {
         self.add_mark(span, true, label);
@@ -131,7 +131,7 @@ impl Telling {
 
     /// Marks another part, with a label.
     pub fn mark_beside(&mut self, span: Span, label: Sentence<'_>)
-        ensures told { self.new.is_refused ≡ false → AddsMark self.old.told self.new.told span false (text_of label.entry) }
+        ensures told { self.new.is_refused ≡ false → AddsMark self.old.told self.new.told span false (sentence_text label.entry) }
         ensures stays { self.new.is_refused ≡ false → self.old.is_refused ≡ false }
     {
         self.add_mark(span, false, label);
@@ -139,10 +139,10 @@ impl Telling {
 
     /// Adds a child without a span.
     fn add_child(&mut self, level: Level, message: Sentence<'_>)
-        ensures told { self.new.is_refused ≡ false → AddsChild self.old.told self.new.told level (text_of message.entry) }
+        ensures told { self.new.is_refused ≡ false → AddsChild self.old.told self.new.told level (sentence_text message.entry) }
         ensures message { KeepsMessage self.old self.new }
     {
-        if let Some(message) = self.text_of(message) {
+        if let Some(message) = self.sentence_text(message) {
             let child = Subdiagnostic::new(self.alloc, level, message);
             self.is_refused = self.told.children.push(child).is_err();
         }
@@ -150,7 +150,7 @@ impl Telling {
 
     /// Adds a note without a span.
     pub fn note(&mut self, message: Sentence<'_>)
-        ensures told { self.new.is_refused ≡ false → AddsChild self.old.told self.new.told Note (text_of message.entry) }
+        ensures told { self.new.is_refused ≡ false → AddsChild self.old.told self.new.told Note (sentence_text message.entry) }
         ensures message { KeepsMessage self.old self.new }
     {
         self.add_child(Level::Note, message);
@@ -158,7 +158,7 @@ impl Telling {
 
     /// Adds a help without a span.
     pub fn help(&mut self, message: Sentence<'_>)
-        ensures told { self.new.is_refused ≡ false → AddsChild self.old.told self.new.told Help (text_of message.entry) }
+        ensures told { self.new.is_refused ≡ false → AddsChild self.old.told self.new.told Help (sentence_text message.entry) }
         ensures message { KeepsMessage self.old self.new }
     {
         self.add_child(Level::Help, message);
@@ -168,7 +168,7 @@ impl Telling {
     fn mark_last(&mut self, span: Span, is_primary: bool, label: Sentence<'_>)
         ensures { KeepsMessage self.old self.new }
     {
-        if let Some(label) = self.text_of(label) {
+        if let Some(label) = self.sentence_text(label) {
             if let Some(child) = self.told.children.last_mut() {
                 let mark = SpanLabel {
                     span,
@@ -198,7 +198,7 @@ impl Telling {
     pub fn extend_child(&mut self, more: Sentence<'_>)
         ensures { KeepsMessage self.old self.new }
     {
-        if let Some(more) = self.text_of(more) {
+        if let Some(more) = self.sentence_text(more) {
             if let Some(child) = self.told.children.last_mut() {
                 self.is_refused = child.message.push_str(more.as_str()).is_err();
             }
@@ -211,8 +211,8 @@ impl Telling {
         ensures message { KeepsMessage self.old self.new }
     {
         let impl_line = impl_line_in(reason);
-        let goal = self.text_of(with_one("{}", goal));
-        let reason = self.text_of(reason);
+        let goal = self.sentence_text(with_one("{}", goal));
+        let reason = self.sentence_text(reason);
         if let (Some(goal), Some(reason)) = (goal, reason) {
             let row = ProofRow {
                 depth,
