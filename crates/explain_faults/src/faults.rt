@@ -1,5 +1,8 @@
 //! The text for a fault of a text.
 
+ghost use Rattle.std.specs.Prelude.{◌≡◌, IfOk};
+ghost use Rattle.explain_faults.specs.Codes.{IsFaultError, fault_code};
+
 use crate::offending::tell_offence;
 use explain_diagnostics::{Diagnostic, ErrCode, Level, SourceFile};
 use messages::{Piece, Telling, plain, with_one};
@@ -34,7 +37,9 @@ fn message(kind: FaultKind) -> &'static str {
 }
 
 /// The code of rustc for the same error, if there is one.
-fn code(kind: FaultKind) -> Option<ErrCode> {
+fn code(kind: FaultKind) -> Option<ErrCode>
+    ensures { result ≡ fault_code kind }
+{
     match kind {
         FaultKind::FreeParam => Some(ErrCode::E0207),
         FaultKind::OwnBound => Some(ErrCode::E0391),
@@ -96,16 +101,21 @@ pub(crate) fn tell_fault(
     file: &SourceFile<'_>,
     fault: TextFault,
     above: Option<&Workspace>,
-) -> Result<Diagnostic, AllocError> {
+) -> Result<Diagnostic, AllocError>
+    ensures { IfOk result (IsFaultError fault.kind) }
+{
     let message = plain(message(fault.kind));
-    let mut telling = Telling::begin(alloc, Level::Error, code(fault.kind), message);
+    let mut telling = Telling::begin(alloc, Level::Error, None, message);
     tell_offence(text, file, fault, above, &mut telling);
     if let Some(advice) = advice(fault.kind) {
         telling.help(plain(advice));
     }
     let heading = Piece::Text(heading(fault.kind));
     telling.help(with_one("the rule: docs/FORMAT.md, `{}`", heading));
-    telling.finish()
+    let mut told = telling.finish()?;
+    told.level = Level::Error;
+    told.code = code(fault.kind);
+    Ok(told)
 }
 
 /// The diagnostic for a text with a fault.
@@ -114,7 +124,9 @@ pub fn fault_diagnostic(
     text: &[u8],
     file: &SourceFile<'_>,
     fault: TextFault,
-) -> Result<Diagnostic, AllocError> {
+) -> Result<Diagnostic, AllocError>
+    ensures { IfOk result (IsFaultError fault.kind) }
+{
     let above = lines_above(alloc, text, file, fault)?;
     tell_fault(alloc, text, file, fault, above.as_ref())
 }

@@ -315,7 +315,7 @@ fn tell_known(line: Faulty<'_>, name: &[u8], telling: &mut Telling) {
         telling.help(with_two(
             "`{}` is declared in line {}: a name is known from the line behind its own, so move that up",
             shown,
-            Piece::Number(below as usize),
+            Piece::Line(line.file.own_line(below)),
         ));
     } else if let Some(advice) = written_for(name) {
         telling.help(with_one(advice, shown));

@@ -1,4 +1,5 @@
 pub mod HeldArgs
+pub mod Kept
 pub mod MetTypes
 -- The crates below whose names the crates above need too: these list this crate alone.
 pub use Rattle.explain_sessions.proofs.ProofChecker

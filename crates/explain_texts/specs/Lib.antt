@@ -2,6 +2,7 @@ pub mod Claimed
 pub mod Doubts
 pub mod ItemLines
 pub mod Marks
+pub mod Orphans
 pub mod Reasons
 -- The crates below whose names the crates above need too: these list this crate alone.
 pub use Rattle.explain_sessions.specs as ExplainSessions

@@ -83,7 +83,8 @@ fn written_impl<'w>(
     } else {
         ", `{}` (line {})"
     };
-    with_two(template, header, Piece::Number(found.line as usize))
+    let line = Piece::Line(texts.file.own_line(found.line));
+    with_two(template, header, line)
 }
 
 /// The sentence that a trait has no impl, or those of `core` alone. An impl may need it.

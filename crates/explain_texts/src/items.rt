@@ -1,6 +1,9 @@
 //! The names of items, and where they are in the text.
 
+ghost use Rattle.std.specs.Prelude.{length};
+ghost use Rattle.std.specs.Option.{option_copied};
 ghost use Rattle.messages.specs.Told.{KeepsMessage};
+ghost use Rattle.explain_texts.specs.ItemLines.{IsItemLine};
 
 use crate::lines::{ImplLine, ItemLines};
 use explain_diagnostics::{Place, SourceFile, Span, on_line, text_of};
@@ -17,7 +20,9 @@ pub struct Texts<'w> {
 }
 
 /// The line of an impl. `None` for an impl of `core`.
-pub fn impl_line<'w>(texts: Texts<'w>, id: ImplId) -> Option<&'w ImplLine> {
+pub fn impl_line<'w>(texts: Texts<'w>, id: ImplId) -> Option<&'w ImplLine>
+    ensures { IsItemLine (length texts.entry.workspace.now.impls) texts.entry.lines.now.impls.items id.index (option_copied result) }
+{
     let all = texts.workspace.impls().len();
     let of_core = all.checked_sub(texts.lines.impls.len())?;
     let place = (id.index as usize).checked_sub(of_core)?;
@@ -25,7 +30,9 @@ pub fn impl_line<'w>(texts: Texts<'w>, id: ImplId) -> Option<&'w ImplLine> {
 }
 
 /// The line of a struct. `None` for a struct of `core`.
-pub(crate) fn struct_line(texts: Texts<'_>, id: AdtId) -> Option<Span> {
+pub(crate) fn struct_line(texts: Texts<'_>, id: AdtId) -> Option<Span>
+    ensures { IsItemLine (length texts.entry.workspace.now.structs) texts.entry.lines.now.structs.items id.index result }
+{
     let all = texts.workspace.structs().len();
     let of_core = all.checked_sub(texts.lines.structs.len())?;
     let place = (id.index as usize).checked_sub(of_core)?;
@@ -38,9 +45,9 @@ pub(crate) fn written<'w>(texts: Texts<'w>, line: u32, place: Place) -> Name<'w>
 }
 
 /// What an impl is called: by its line, or by its number in `core`.
-pub fn impl_piece(texts: Texts<'_>, id: ImplId) -> Piece<'static> {
+pub fn impl_piece<'w>(texts: Texts<'w>, id: ImplId) -> Piece<'w> {
     if let Some(found) = impl_line(texts, id) {
-        return Piece::ImplAtLine(found.line);
+        return Piece::ImplAtLine(texts.file.own_line(found.line));
     }
     match texts.workspace.impls().get(id.index as usize) {
         Some(entry) => Piece::ImplOfCore(entry.number_in_crate),

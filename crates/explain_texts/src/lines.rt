@@ -1,7 +1,7 @@
 //! Where the structs, the impls and the queries of a text are.
 
 ghost use Rattle.std.specs.Prelude.{◌≡◌, ◌∷◌, ◌++◌, [], IfSome, OnOk};
-ghost use Rattle.explain_texts.specs.ItemLines.{line_numbers};
+ghost use Rattle.explain_texts.specs.ItemLines.{AddsImplLine, line_numbers};
 
 use explain_diagnostics::{
     LineParts, Place, SourceFile, Span, on_line, parts_of_impl, parts_of_question,
@@ -88,7 +88,9 @@ fn asked_place(alloc: Global, line: &[u8]) -> Result<Place, AllocError> {
 
 impl ItemLines {
     /// Adds the line of an impl.
-    fn add_impl(&mut self, alloc: Global, number: u32, line: &[u8]) -> Result<(), AllocError> {
+    fn add_impl(&mut self, alloc: Global, number: u32, line: &[u8]) -> Result<(), AllocError>
+        ensures { OnOk result (AddsImplLine self.old self.new number) }
+    {
         let parts = impl_parts(alloc, line)?;
         let found = ImplLine {
             line: number,

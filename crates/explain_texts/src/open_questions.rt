@@ -29,12 +29,12 @@ pub(crate) fn chance(may_apply: bool) -> &'static str
 
 /// The sentence for the candidate with this number, which is left: it applies, if the goal holds by it, or it may apply. It says so if that
 /// was not checked.
-fn way_said(
-    story: &Story<'_>,
+fn way_said<'s>(
+    story: &'s Story<'_>,
     candidate: &CandidateNode,
     holds: bool,
     number: usize,
-) -> Sentence<'static>
+) -> Sentence<'s>
     ensures { is_marked result ≡ false → (claims_chance story.now 0 number ≡ true) ⊎ (claims_rule story.now 0 number ≡ true) }
 {
     let template = if !holds || candidate.certainty != Some(Certainty::Yes) {
@@ -69,6 +69,21 @@ fn tell_ways(story: &Story<'_>, telling: &mut Telling)
     }
 }
 
+/// Adds why the question is open, on the path to the goal that leaves it so.
+fn tell_open(story: &Story<'_>, path: &[usize], asking: Asking<'_>, telling: &mut Telling)
+    ensures { KeepsMessage telling.old telling.new }
+{
+    let mut reason = reason_of(story, 0, asking);
+    if path.len() > 1 || !matches!(reason, Reason::Open) {
+        reason = tell_path(story, path, asking, telling);
+    }
+    // A longer path tells the way that it takes.
+    if path.len() == 1 && !story.is_held(0) {
+        tell_ways(story, telling);
+    }
+    tell_limit(reason, asking.depth, telling);
+}
+
 /// What is said of a question that was answered open.
 pub fn left_open(
     alloc: Global,
@@ -84,14 +99,6 @@ pub fn left_open(
     let path = open_path(alloc, story, 0)?;
     let mut telling = Telling::begin(alloc, Level::Note, None, message);
     telling.mark(asking.span, plain(""));
-    let mut reason = reason_of(story, 0, asking);
-    if path.len() > 1 || !matches!(reason, Reason::Open) {
-        reason = tell_path(story, &path, asking, &mut telling);
-    }
-    // A longer path tells the way that it takes.
-    if path.len() == 1 && !story.is_held(0) {
-        tell_ways(story, &mut telling);
-    }
-    tell_limit(reason, asking.depth, &mut telling);
+    tell_open(story, &path, asking, &mut telling);
     telling.finish()
 }

@@ -1,8 +1,9 @@
 //! The text for a header that breaks the orphan rule.
 
-ghost use Rattle.std.specs.Prelude.{IfSome};
+ghost use Rattle.std.specs.Prelude.{◌≡◌, IfOk, IfSome};
 ghost use Rattle.explain_sessions.specs.TypeTerms.Promised.Handles.{Has, types};
 ghost use Rattle.explain_sessions.specs.OrphanCheck.Promised.Errors.{ErrorHeld, LeavesHeld, TypeHeld};
+ghost use Rattle.explain_texts.specs.Orphans.{IsOrphanError, orphan_code};
 
 use crate::failures::has_params;
 use crate::items::{Texts, crate_name, impl_line, trait_home, trait_owner};
@@ -37,9 +38,9 @@ impl<'w> Refused<'w> {
     }
 
     /// The line of the impl, for a sentence.
-    fn line(self) -> Piece<'static> {
+    fn line(self) -> Piece<'w> {
         match impl_line(self.texts, self.id) {
-            Some(found) => Piece::Number(found.line as usize),
+            Some(found) => Piece::Line(self.texts.file.own_line(found.line)),
             None => NONE,
         }
     }
@@ -240,11 +241,11 @@ fn first_home(texts: Texts<'_>, cx: &Interner, types: &[(Ty, IsFirstInputType)])
 }
 
 /// The message if no type of the header is local.
-fn nonlocal_message(
+fn nonlocal_message<'w>(
     cx: &Interner,
     types: &[(Ty, IsFirstInputType)],
-    line: Piece<'static>,
-) -> Sentence<'static>
+    line: Piece<'w>,
+) -> Sentence<'w>
     requires { LeavesHeld cx.now.entries types.now }
 {
     let sort = match types.first() {
@@ -268,7 +269,7 @@ fn nonlocal(
     requires { LeavesHeld cx.now.entries types.now }
 {
     let message = nonlocal_message(cx, types, refused.line());
-    let mut telling = Telling::begin(alloc, Level::Error, Some(ErrCode::E0117), message);
+    let mut telling = Telling::begin(alloc, Level::Error, None, message);
     mark_types(refused, &mut telling);
     tell_met(refused, cx, types, &mut telling);
     let of_type = first_home(refused.texts, cx, types);
@@ -277,11 +278,7 @@ fn nonlocal(
 }
 
 /// The message if a parameter comes before the first local type, or if there is no local type.
-fn uncovered_message<'s>(
-    param: &'s str,
-    local: Option<&'s str>,
-    line: Piece<'static>,
-) -> Sentence<'s> {
+fn uncovered_message<'s>(param: &'s str, local: Option<&'s str>, line: Piece<'s>) -> Sentence<'s> {
     let param = Piece::Text(param);
     match local {
         None => with_three(
@@ -349,7 +346,7 @@ fn uncovered_param(
     local: Option<&str>,
 ) -> Telling {
     let message = uncovered_message(param, local, refused.line());
-    let mut telling = Telling::begin(alloc, Level::Error, Some(ErrCode::E0210), message);
+    let mut telling = Telling::begin(alloc, Level::Error, None, message);
     mark_header(
         refused,
         uncovered_label(param, local.is_some()),
@@ -418,6 +415,16 @@ fn tell_others(refused: Refused<'_>, session: &Session<'_>, telling: &mut Tellin
     }
 }
 
+/// The code of rustc for the same error.
+fn code(error: &OrphanCheckErr<Ty>) -> ErrCode
+    ensures { result ≡ orphan_code error.now }
+{
+    match error {
+        OrphanCheckErr::NonLocalInputType(_) => ErrCode::E0117,
+        OrphanCheckErr::UncoveredTyParams(_) => ErrCode::E0210,
+    }
+}
+
 /// The diagnostic for a header of the session's crate that breaks the orphan rule, with the others behind it.
 pub fn orphan(
     alloc: Global,
@@ -428,6 +435,7 @@ pub fn orphan(
     error: &OrphanCheckErr<Ty>,
 ) -> Result<Option<Diagnostic>, AllocError>
     requires { ErrorHeld session.now.terms error.now }
+    ensures { IfOk result (λ o. IfSome o (IsOrphanError error.now)) }
 {
     let Some(entry) = texts.workspace.impls().get(id.index as usize) else {
         return Ok(None);
@@ -444,6 +452,8 @@ pub fn orphan(
         OrphanCheckErr::UncoveredTyParams(error) => uncovered(alloc, refused, cx, error)?,
     };
     tell_others(refused, session, &mut telling);
-    let told = telling.finish()?;
+    let mut told = telling.finish()?;
+    told.level = Level::Error;
+    told.code = Some(code(error));
     Ok(Some(told))
 }

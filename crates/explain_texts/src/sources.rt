@@ -15,7 +15,7 @@ fn rule_name(source: BuiltinImplSource) -> &'static str {
 }
 
 /// The source of a candidate, as in "by a built-in rule".
-pub fn source_piece(texts: Texts<'_>, source: CandidateSource) -> Piece<'static> {
+pub fn source_piece<'w>(texts: Texts<'w>, source: CandidateSource) -> Piece<'w> {
     match source {
         CandidateSource::Impl(id) => impl_piece(texts, id),
         CandidateSource::BuiltinImpl(source) => Piece::Text(rule_name(source)),
