@@ -37,7 +37,7 @@ REFUSED = re.compile(rb"^(?:crate \w+: (?:orphan|overlap)|later \w+: breaking|su
 SERVED: Sequence[tuple[str, dict[str, Any]]] = [
     ('{"id": 1, "crate": "a", "prove": "A: Show"}', {"id": 1, "answer": "yes", "values": {}}),
     ('{"id": "b", "crate": "a", "prove": "fn(A): Fn<?x>"}', {"id": "b", "answer": "yes", "values": {"x": "(A,)"}}),
-    ('{"id": 3, "crate": "a", "prove": "?x: Show"}', {"id": 3, "answer": "maybe"}),
+    ('{"id": 3, "crate": "a", "prove": "?x: Show"}', {"id": 3, "answer": "maybe", "values": {}}),
     ('{"id": 4, "crate": "base", "prove": "u8: Show"}', {"id": 4, "answer": "unproved"}),
     ('{"id": 5, "crate": "base", "refute": "u8: Show"}', {"id": 5, "answer": "no"}),
     ('{"id": 6, "crate": "a", "refute": "A: Show"}', {"id": 6, "answer": "open"}),

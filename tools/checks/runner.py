@@ -14,6 +14,7 @@ from __future__ import annotations
 import argparse
 import importlib
 import resource
+import time
 import traceback
 from types import ModuleType
 from typing import Sequence
@@ -72,7 +73,10 @@ def try_all(names: Sequence[str], given: Sequence[argparse.Namespace], is_verbos
     for name, words in zip(names, given):
         if len(names) > 1:
             print(f"tools/check: {name}", flush=True)
+        began = time.monotonic()
         tally = try_one(name, words, is_verbose)
+        if len(names) > 1:
+            print(f"tools/check: {name} took {time.monotonic() - began:.0f} s")
         print(tally.line(), flush=True)
         total.passed += tally.passed
         total.failed += tally.failed
