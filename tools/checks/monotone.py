@@ -29,8 +29,9 @@ DEPTHS = (3, 4, 5, 6, 8, 12, 16, 24, 32, 48, 64, 96, 100, 128, 139, 172, 200, 25
 RULED_DEPTHS = (16, 32, 64, 100, 128, 139, 200, 255)
 # So many depths are tried of a random text.
 SOME = 4
-# A run that takes longer, or more memory, is skipped, and counted.
+# A text with answers by the rules is answered within these. Of the others a run that takes longer than `SHORT` is skipped, and counted.
 LIMITS = Limits(seconds=20, memory=512 * 1024 * 1024)
+SHORT = LIMITS._replace(seconds=6)
 # The first words of answers of a search that met the depth or was given up.
 OPEN = ("overlap", "maybe", "open", "undecided")
 # The families of these kinds are tried, at the smaller of their sizes.
@@ -83,7 +84,7 @@ def fault_of(case: Case, runs: Sequence[tuple[int, Ended]]) -> Optional[str]:
 
 def runs_of(path: str, case: Case) -> list[tuple[int, Ended]]:
     """The runs that ended with an answer within the limits."""
-    runs = ((depth, run([path, str(depth)], case.text, LIMITS)) for depth in case.depths)
+    runs = ((depth, run([path, str(depth)], case.text, SHORT)) for depth in case.depths)
     return [(depth, ended) for depth, ended in runs if ended.status in (0, 1)]
 
 
@@ -129,4 +130,4 @@ def check(tally: Tally, given: argparse.Namespace) -> None:
             runs = ended.result()
             passed_over += len(case.depths) - len(runs)
             tally.report(case.name, fault_of(case, runs))
-    print(f"monotone: {passed_over} runs had no answer within {LIMITS.seconds} s and 512 MB")
+    print(f"monotone: {passed_over} runs had no answer within {SHORT.seconds} s and 512 MB")
