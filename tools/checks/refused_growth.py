@@ -8,6 +8,7 @@ refused call. If no request is refused it has to pass. An explanation requests m
 of thousands: of these each of the first 400 and 4,000 requests is refused, and then each 17th and 97th.
 
 It needs a C compiler under the name cc. A program is run once for each request. A test is run once, and forks at each (tools/driver/refuse.c).
+Examples and tests are tried side by side.
 """
 from __future__ import annotations
 
@@ -15,8 +16,10 @@ import argparse
 import os
 import re
 import tempfile
+from concurrent.futures import ThreadPoolExecutor
+from functools import partial
 from pathlib import Path
-from typing import Iterator, NamedTuple, Optional, Sequence
+from typing import Callable, Iterator, NamedTuple, Optional, Sequence
 
 from .common import TOP, Ended, Limits, Missing, Tally, example, program, run
 from .driver import driver, tests
@@ -45,7 +48,7 @@ class Refusing:
     """What refuses a request for memory of the program that it is preloaded into."""
 
     def __init__(self, room: Path) -> None:
-        self.object, self.report = room / "refuse_nth.so", room / "report"
+        self.object = room / "refuse_nth.so"
         source = TOP / "tools" / "refuse_nth.c"
         try:
             made = run(["cc", "-O2", "-shared", "-fPIC", "-Wall", "-Werror", "-o", self.object, source])
@@ -54,14 +57,14 @@ class Refusing:
         if made.status:
             raise Missing(f"tools/refuse_nth.c does not compile: {made.errors.decode()}")
 
-    def turns(self, words: Sequence[str], text: bytes = b"", dense: int = MOST, step: int = 1) -> Iterator[Turn]:
+    def turns(self, name: str, words: Sequence[str], text: bytes = b"", dense: int = MOST, step: int = 1) -> Iterator[Turn]:
         """Runs the command with each request refused in turn, from the number `dense` on each one so many further."""
-        number, was_refused = 1, True
+        number, was_refused, report = 1, True, self.object.with_name(f"{name}.report")
         while was_refused and number <= MOST:
-            self.report.unlink(missing_ok=True)
-            env = {**os.environ, "REFUSE_NTH": str(number), "REFUSE_REPORT": str(self.report), "LD_PRELOAD": str(self.object)}
+            report.unlink(missing_ok=True)
+            env = {**os.environ, "REFUSE_NTH": str(number), "REFUSE_REPORT": str(report), "LD_PRELOAD": str(self.object)}
             ended = run(words, text, env=env)
-            was_refused = self.report.is_file()
+            was_refused = report.is_file()
             yield Turn(number, ended, was_refused)
             number += 1 if number < dense else step
 
@@ -70,7 +73,7 @@ def program_on(tally: Tally, refusing: Refusing, name: str) -> None:
     """The built program on an example."""
     it = example(name)
     expected, refused = it.expected(), 0
-    for number, ended, was_refused in refusing.turns([program("celtisdarts"), "8"], it.text):
+    for number, ended, was_refused in refusing.turns(name, [program("celtisdarts"), "8"], it.text):
         refused += was_refused
         is_whole = (ended.status, ended.output) == (0, expected)
         if was_refused:
@@ -93,17 +96,17 @@ def fault_of_explained(turn: Turn, expected: bytes) -> Optional[str]:
 
 
 def explained_on(tally: Tally, refusing: Refusing, name: str) -> None:
-    """With --explain, on an example."""
+    """The built program with --explain, on an example."""
     it, last = example(name), 0
-    for turn in refusing.turns([program("celtisdarts"), "--explain", "8"], it.text, 400, 17):
+    for turn in refusing.turns(f"{name}.explained", [program("celtisdarts"), "--explain", "8"], it.text, 400, 17):
         tally.report(f"{name}, explained, request {turn.number} refused", fault_of_explained(turn, it.expected()))
         last = turn.number
     print(f"{name}, explained: requests refused in turn, up to the {last}th")
 
 
-def test_on(tally: Tally, report: Path, name: str) -> int:
+def test_on(tally: Tally, room: Path, name: str) -> int:
     """A test of the layers below; returns how many requests it was refused."""
-    report.unlink(missing_ok=True)
+    report = room / f"{name}.report"
     ended = run([driver(), name], limits=Limits(seconds=600), env={**os.environ, "REFUSE_EACH": str(report)})
     tally.expect(f"{name}, none refused", ended.status == 0, f"the test ends with status {ended.status}")
     parts = REQUEST.split(report.read_bytes())
@@ -113,13 +116,24 @@ def test_on(tally: Tally, report: Path, name: str) -> int:
     return len(parts) // 3
 
 
+def side_by_side(tally: Tally, cases: Sequence[Callable[[Tally], Optional[int]]]) -> int:
+    """Tries the cases, each with a tally of its own, and adds these up. Returns the sum of what they return."""
+    tallies = [Tally(tally.is_verbose) for _ in cases]
+    with ThreadPoolExecutor(os.cpu_count()) as pool:
+        returned = [it or 0 for it in pool.map(lambda case, own: case(own), cases, tallies)]
+    tally.passed += sum(it.passed for it in tallies)
+    tally.failed += sum(it.failed for it in tallies)
+    return sum(returned)
+
+
 def check(tally: Tally, _: argparse.Namespace) -> None:
-    with tempfile.TemporaryDirectory() as room:
-        refusing = Refusing(Path(room))
-        for name in ANSWERED:
-            program_on(tally, refusing, name)
-        for name in EXPLAINED:
-            explained_on(tally, refusing, name)
-        requests = sum(test_on(tally, Path(room) / "of_tests", name) for name in tests() if not name.startswith(LONG))
+    with tempfile.TemporaryDirectory() as folder:
+        room = Path(folder)
+        refusing = Refusing(room)
+        explained = [partial(explained_on, refusing=refusing, name=name) for name in EXPLAINED]
+        answered = [partial(program_on, refusing=refusing, name=name) for name in ANSWERED]
+        side_by_side(tally, [*explained, *answered])
+        of_tests = [partial(test_on, room=room, name=name) for name in tests() if not name.startswith(LONG)]
+        requests = side_by_side(tally, of_tests)
     print(f"the tests of the layers below: {requests} requests refused in turn")
     tally.expect("the tests of the layers below", requests > 0, "no request was refused at all")
