@@ -21,16 +21,18 @@ from typing import Sequence
 
 from .common import Missing, Tally
 
-# By group, in the order of the gate: checks without a program, those of the built programs, and those that are run by hand.
+# By group, in the order of the gate: checks without a program, those of the built program, those that compile something too, which the
+# gate runs beside them, and those that are run by hand.
 GROUPS = {
     "sources": ["promises", "documents", "reading", "shape", "packages"],
     "programs": [
         "examples", "slips", "explanations", "explained_words", "statuses", "options", "asking", "transcripts", "limits", "prefixes", "orders",
-        "monotone", "hostile", "tests", "walks", "refused_growth", "rustdoc_cases", "survey_cases", "bindings", "driven",
+        "monotone", "hostile",
     ],
+    "compiled": ["tests", "walks", "driven", "refused_growth", "rustdoc_cases", "survey_cases", "bindings"],
     "by_hand": ["explained", "explained_json"],
 }
-GATE = [*GROUPS["sources"], *GROUPS["programs"]]
+GATE = [*GROUPS["sources"], *GROUPS["programs"], *GROUPS["compiled"]]
 ALL = [name for names in GROUPS.values() for name in names]
 
 
