@@ -7,6 +7,7 @@ pub mod Stack
 pub mod Provisional
 pub mod Question
 pub mod Unlimited
+pub mod Steps
 pub mod Turn
 pub mod Plain
 pub mod Proof

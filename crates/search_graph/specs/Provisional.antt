@@ -1,5 +1,5 @@
 -- Provisional entries: results that depend on goals of the stack, stored during the runs of those goals.
-use Rattle.std.specs.Prelude.{◌≡◌, ◌≤◌, ◌+◌, ◌↔◌, ◌||◌, ◌⊎◌, ℕ, Bool, true, length, min, take, drop, List, [], ◌∷◌, ◌++◌, Option, Some, slice_get}
+use Rattle.std.specs.Prelude.{◌≡◌, ◌≤◌, ◌+◌, ◌↔◌, ◌||◌, ◌⊎◌, ℕ, true, length, min, take, drop, List, [], ◌∷◌, ◌++◌, Option, Some, slice_get}
 use Rattle.std.specs.Global.{Vec}
 use Rattle.search_paths.specs.declared.path_kind.PathKind.{PathKind}
 use Rattle.search_paths.specs.declared.path_kind.PathKind.TheVariants.{ForcedAmbiguity}

@@ -5,13 +5,14 @@ ghost use Rattle.search_graph.specs.Meaning.{KeepsContext};
 ghost use Rattle.search_graph.specs.Chain.{AreInRange};
 ghost use Rattle.search_paths.specs.Nested.{covered, one_goal};
 ghost use Rattle.search_graph.specs.Computed.{MakesMisstep};
-ghost use Rattle.search_graph.specs.Cache.{known_results, HasConflict, IsNumberOf, KeepsNumbers, KeepsResults, HoldsResult};
+ghost use Rattle.search_graph.specs.Cache.{known_results, HasConflict, IsNumberOf, KeepsResults, HoldsResult};
 ghost use Rattle.search_graph.specs.Promised.FrameBound.{frame_bound};
 ghost use Rattle.search_graph.specs.Bound.{question_bound, counted_before, IsCounted};
 ghost use Rattle.search_paths.specs.KeptPaths.{AreBelow, indices};
 ghost use Rattle.search_graph.specs.Stack.{steps_of, span_of_newest, IsStack, IsEntry, AreCached, IfUsable, IfUsableAlone};
-ghost use Rattle.search_graph.specs.Question.{AreEntriesOver, AreEntriesStill, AreLeftOver, IsReplyOver, IsRunOver, IsFaithfulOver, IsUntouchedOver, IsNotPlainOver, AreFramesWithin, StaysWithin};
-ghost use Rattle.search_graph.specs.Unlimited.{SearchStaysWithin, SearchRunsWithin};
+ghost use Rattle.search_graph.specs.Question.{AreEntriesOver, AreLeftOver, IsReplyOver, IsRunOver, IsFaithfulOver, IsUntouchedOver, IsNotPlainOver, AreFramesWithin, StaysWithin};
+ghost use Rattle.search_graph.specs.Unlimited.{SearchRunsWithin};
+ghost use Rattle.search_graph.specs.Steps.{IsSearchStep, IsEvaluation};
 
 use crate::cache::CachedResults;
 use crate::candidates::{Candidates, Turn};
@@ -86,32 +87,13 @@ pub(crate) fn evaluate<D: Delegate>(
     requires cache { AreCached D.meaning (D.meaning.world cx.old) cx.old cache.old.entries.items }
     requires entries { AreEntriesOver D.meaning cx.old search.old.stack.items cache.old.asked.items search.old.entries.lists.items }
     requires input { D.meaning.IsInput cx.old input }
-    ensures keeps { KeepsContext D.meaning cx.old cx.new }
-    ensures stack { OnOk result (search.new.stack.items ≡ search.old.stack.items) }
-    ensures entries { OnOk result (AreEntriesStill D.meaning cx.old search.old.stack.items cx.new cache.new.asked.items search.new.entries.lists.items) }
-    ensures cache { AreCached D.meaning (D.meaning.world cx.new) cx.new cache.new.entries.items }
-    ensures goals { KeepsNumbers D.Cx.Input.eq cache.old.goals.keys cache.new.goals.keys }
-    ensures results { KeepsResults cache.old.entries.items cache.new.entries.items }
-    ensures asked_before { KeepsResults cache.old.asked.items cache.new.asked.items }
-    ensures range { IfOk result (λ o. AreInRange cache.new.asked.items o.dependencies.nested_goals) }
+    ensures step { IsSearchStep D.meaning cx.old search.old cache.old input (depth + 1)
+        (λ width. frame_bound (max D.FIXPOINT_STEP_LIMIT 1) width depth) cx.new search.new cache.new result }
+    ensures evaluation { IsEvaluation D.meaning cx.old search.old cache.old input step_kind (depth + 1) cx.new search.new cache.new result }
     ensures depth { IfOk result (λ o. o.dependencies.encountered_overflow ≡ false → o.dependencies.required_depth ≤ depth) }
     ensures kept { search.old.stack.items ≡ [] → IfOk result (λ o. HoldsResult cache.new.entries.items input depth o.result) }
-    ensures answer { IfOk result (λ o. IsReplyOver D.meaning cx.old search.old.stack.items input step_kind o.dependencies.heads.items cx.new o.result) }
-    ensures faithful { IfOk result (IsFaithfulOver D.meaning cx.old search.old.stack.items input (depth + 1) cx.new) }
-    ensures no_conflict { result ≡ Err (Stop.Fault GraphFault.Conflict) → IsNotPlainOver D.meaning cx.old search.old.stack.items input (depth + 1) }
-    ensures exhausted { result ≡ Err Stop.Exhausted → IsNotPlainOver D.meaning cx.old search.old.stack.items input (depth + 1) }
-    ensures protocol { result ≡ Err (Stop.Fault GraphFault.Protocol) → MakesMisstep D.meaning (D.meaning.world cx.old) (D.meaning.goal_of cx.old input) }
-    ensures conflict { result ≡ Err (Stop.Fault GraphFault.Conflict) → HasConflict D.meaning cx.new (known_results cache.new.entries.items) }
-    ensures frames { AreFramesWithin D.meaning cx.old input search.old.frames search.new.frames
-        (λ width. frame_bound (max D.FIXPOINT_STEP_LIMIT 1) width depth) }
-    ensures rises { search.old.frames ≤ search.new.frames }
     ensures counted { search.old.stack.items ≡ []
         → IfOk result (λ o. HoldsResult cache.old.entries.items input depth o.result ⊎ IsCounted search.old.frames search.new.frames) }
-    ensures spent { result ≡ Err Stop.Exhausted → IsCounted search.old.frames search.new.frames }
-    ensures full { result ≡ Err (Stop.Fault GraphFault.Full) → D.meaning.IsFull cx.new }
-    ensures limits { search.old.limits_met ≡ true → search.new.limits_met ≡ true }
-    ensures no_limit { search.old.limits_met ≡ false → search.new.limits_met ≡ true → IsNotPlainOver D.meaning cx.old search.old.stack.items input (depth + 1) }
-    ensures within { IfOk result (λ o. SearchStaysWithin D.meaning cx.old search.old cache.old input cx.new search.new cache.new o.result) }
     ensures cached { IfUsable cache.old.entries.items cache.old.asked.items search.old.stack.items input depth (search.new.frames
         ≡ search.old.frames × cache.new.entries ≡ cache.old.entries) }
     ensures served { IfUsable cache.old.entries.items cache.old.asked.items search.old.stack.items input depth (result ≡ Err Stop.Exhausted → ⊥) }
@@ -146,31 +128,12 @@ fn evaluate_new<D: Delegate>(
     requires entries { AreEntriesOver D.meaning cx.old search.old.stack.items cache.old.asked.items search.old.entries.lists.items }
     requires input { D.meaning.IsInput cx.old input }
     requires number { IsNumberOf D.Cx.Input.eq cache.old.goals.keys input number }
-    ensures keeps { KeepsContext D.meaning cx.old cx.new }
-    ensures stack { OnOk result (search.new.stack.items ≡ search.old.stack.items) }
-    ensures entries { OnOk result (AreEntriesStill D.meaning cx.old search.old.stack.items cx.new cache.new.asked.items search.new.entries.lists.items) }
-    ensures cache { AreCached D.meaning (D.meaning.world cx.new) cx.new cache.new.entries.items }
-    ensures goals { KeepsNumbers D.Cx.Input.eq cache.old.goals.keys cache.new.goals.keys }
-    ensures results { KeepsResults cache.old.entries.items cache.new.entries.items }
-    ensures asked_before { KeepsResults cache.old.asked.items cache.new.asked.items }
-    ensures range { IfOk result (λ o. AreInRange cache.new.asked.items o.dependencies.nested_goals) }
+    ensures step { IsSearchStep D.meaning cx.old search.old cache.old input (depth + 1)
+        (λ width. frame_bound (max D.FIXPOINT_STEP_LIMIT 1) width depth) cx.new search.new cache.new result }
+    ensures evaluation { IsEvaluation D.meaning cx.old search.old cache.old input step_kind (depth + 1) cx.new search.new cache.new result }
     ensures depth { IfOk result (λ o. o.dependencies.encountered_overflow ≡ false → o.dependencies.required_depth ≤ depth) }
     ensures kept { search.old.stack.items ≡ [] → IfOk result (λ o. HoldsResult cache.new.entries.items input depth o.result) }
-    ensures answer { IfOk result (λ o. IsReplyOver D.meaning cx.old search.old.stack.items input step_kind o.dependencies.heads.items cx.new o.result) }
-    ensures faithful { IfOk result (IsFaithfulOver D.meaning cx.old search.old.stack.items input (depth + 1) cx.new) }
-    ensures no_conflict { result ≡ Err (Stop.Fault GraphFault.Conflict) → IsNotPlainOver D.meaning cx.old search.old.stack.items input (depth + 1) }
-    ensures exhausted { result ≡ Err Stop.Exhausted → IsNotPlainOver D.meaning cx.old search.old.stack.items input (depth + 1) }
-    ensures protocol { result ≡ Err (Stop.Fault GraphFault.Protocol) → MakesMisstep D.meaning (D.meaning.world cx.old) (D.meaning.goal_of cx.old input) }
-    ensures conflict { result ≡ Err (Stop.Fault GraphFault.Conflict) → HasConflict D.meaning cx.new (known_results cache.new.entries.items) }
-    ensures frames { AreFramesWithin D.meaning cx.old input search.old.frames search.new.frames
-        (λ width. frame_bound (max D.FIXPOINT_STEP_LIMIT 1) width depth) }
-    ensures rises { search.old.frames ≤ search.new.frames }
     ensures counted { OnOk result (IsCounted search.old.frames search.new.frames) }
-    ensures spent { result ≡ Err Stop.Exhausted → IsCounted search.old.frames search.new.frames }
-    ensures full { result ≡ Err (Stop.Fault GraphFault.Full) → D.meaning.IsFull cx.new }
-    ensures limits { search.old.limits_met ≡ true → search.new.limits_met ≡ true }
-    ensures no_limit { search.old.limits_met ≡ false → search.new.limits_met ≡ true → IsNotPlainOver D.meaning cx.old search.old.stack.items input (depth + 1) }
-    ensures within { IfOk result (λ o. SearchStaysWithin D.meaning cx.old search.old cache.old input cx.new search.new cache.new o.result) }
 {
     let index = search.stack.len();
     let mut entry = search.new_entry(number, input, step_kind);
@@ -244,32 +207,15 @@ fn run_once<D: Delegate>(
     requires nested { AreInRange cache.old.asked.items earlier.nested_goals }
     requires depth { earlier.encountered_overflow ≡ false → earlier.required_depth ≤ depth }
     requires earlier { IsUntouchedOver D.meaning cx.old search.old.stack.items entry.input (depth + 1) earlier }
-    ensures keeps { KeepsContext D.meaning cx.old cx.new }
-    ensures stack { OnOk result (search.new.stack.items ≡ search.old.stack.items) }
-    ensures entries { OnOk result (AreEntriesStill D.meaning cx.old search.old.stack.items cx.new cache.new.asked.items search.new.entries.lists.items) }
+    ensures step { IsSearchStep D.meaning cx.old search.old cache.old entry.input (depth + 1)
+        (λ width. 1 + width * question_bound (max D.FIXPOINT_STEP_LIMIT 1) width depth) cx.new search.new cache.new result }
     ensures left { IfOk result (λ p. AreLeftOver D.meaning cx.old search.old.stack.items entry.input entry.step_kind cx.new cache.new.asked.items p.2.items) }
-    ensures cache { AreCached D.meaning (D.meaning.world cx.new) cx.new cache.new.entries.items }
-    ensures goals { KeepsNumbers D.Cx.Input.eq cache.old.goals.keys cache.new.goals.keys }
-    ensures results { KeepsResults cache.old.entries.items cache.new.entries.items }
-    ensures asked_before { KeepsResults cache.old.asked.items cache.new.asked.items }
     ensures range { IfOk result (λ p. AreInRange cache.new.asked.items p.1.dependencies.nested_goals) }
     ensures depth { IfOk result (λ p. p.1.dependencies.encountered_overflow ≡ false → p.1.dependencies.required_depth ≤ depth) }
     ensures entry { IfOk result (λ p. p.0 ≡ entry) }
     ensures provisional { IfOk result (λ p. IsRunOver D.meaning cx.old search.old.stack.items entry p.1.dependencies.heads.items cx.new p.1.result) }
     ensures faithful { IfOk result (λ p. IsFaithfulOver D.meaning cx.old search.old.stack.items entry.input (depth + 1) cx.new p.1) }
-    ensures no_conflict { result ≡ Err (Stop.Fault GraphFault.Conflict) → IsNotPlainOver D.meaning cx.old search.old.stack.items entry.input (depth + 1) }
-    ensures exhausted { result ≡ Err Stop.Exhausted → IsNotPlainOver D.meaning cx.old search.old.stack.items entry.input (depth + 1) }
-    ensures protocol { result ≡ Err (Stop.Fault GraphFault.Protocol) → MakesMisstep D.meaning (D.meaning.world cx.old) (D.meaning.goal_of cx.old entry.input) }
-    ensures conflict { result ≡ Err (Stop.Fault GraphFault.Conflict) → HasConflict D.meaning cx.new (known_results cache.new.entries.items) }
-    ensures frames { AreFramesWithin D.meaning cx.old entry.input search.old.frames search.new.frames
-        (λ width. 1 + width * question_bound (max D.FIXPOINT_STEP_LIMIT 1) width depth) }
-    ensures rises { search.old.frames ≤ search.new.frames }
     ensures counted { OnOk result (IsCounted search.old.frames search.new.frames) }
-    ensures spent { result ≡ Err Stop.Exhausted → IsCounted search.old.frames search.new.frames }
-    ensures full { result ≡ Err (Stop.Fault GraphFault.Full) → D.meaning.IsFull cx.new }
-    ensures limits { search.old.limits_met ≡ true → search.new.limits_met ≡ true }
-    ensures no_limit { search.old.limits_met ≡ false → search.new.limits_met ≡ true
-        → IsNotPlainOver D.meaning cx.old search.old.stack.items entry.input (depth + 1) }
     ensures within { IfOk result (λ p. SearchRunsWithin D.meaning cx.old search.old cache.old entry cx.new search.new cache.new p.1.result p.2) }
 {
     let (mut frame, mut request) = start_run(search, cx, entry)?;
@@ -326,30 +272,10 @@ fn ask<D: Delegate>(
     requires cache { AreCached D.meaning (D.meaning.world cx.old) cx.old cache.old.entries.items }
     requires entries { AreEntriesOver D.meaning cx.old search.old.stack.items cache.old.asked.items search.old.entries.lists.items }
     requires input { D.meaning.IsInput cx.old input }
-    ensures keeps { KeepsContext D.meaning cx.old cx.new }
-    ensures stack { OnOk result (search.new.stack.items ≡ search.old.stack.items) }
-    ensures entries { OnOk result (AreEntriesStill D.meaning cx.old search.old.stack.items cx.new cache.new.asked.items search.new.entries.lists.items) }
-    ensures cache { AreCached D.meaning (D.meaning.world cx.new) cx.new cache.new.entries.items }
-    ensures goals { KeepsNumbers D.Cx.Input.eq cache.old.goals.keys cache.new.goals.keys }
-    ensures results { KeepsResults cache.old.entries.items cache.new.entries.items }
-    ensures asked_before { KeepsResults cache.old.asked.items cache.new.asked.items }
-    ensures range { IfOk result (λ o. AreInRange cache.new.asked.items o.dependencies.nested_goals) }
+    ensures step { IsSearchStep D.meaning cx.old search.old cache.old input (cond overflowed 0 depth)
+        (λ width. question_bound (max D.FIXPOINT_STEP_LIMIT 1) width depth) cx.new search.new cache.new result }
+    ensures evaluation { IsEvaluation D.meaning cx.old search.old cache.old input step_kind (cond overflowed 0 depth) cx.new search.new cache.new result }
     ensures depth { IfOk result (λ o. o.dependencies.encountered_overflow ≡ false → o.dependencies.required_depth < depth) }
-    ensures answer { IfOk result (λ o. IsReplyOver D.meaning cx.old search.old.stack.items input step_kind o.dependencies.heads.items cx.new o.result) }
-    ensures faithful { IfOk result (IsFaithfulOver D.meaning cx.old search.old.stack.items input (cond overflowed 0 depth) cx.new) }
-    ensures no_conflict { result ≡ Err (Stop.Fault GraphFault.Conflict)
-        → IsNotPlainOver D.meaning cx.old search.old.stack.items input (cond overflowed 0 depth) }
-    ensures exhausted { result ≡ Err Stop.Exhausted → IsNotPlainOver D.meaning cx.old search.old.stack.items input (cond overflowed 0 depth) }
-    ensures protocol { result ≡ Err (Stop.Fault GraphFault.Protocol) → MakesMisstep D.meaning (D.meaning.world cx.old) (D.meaning.goal_of cx.old input) }
-    ensures conflict { result ≡ Err (Stop.Fault GraphFault.Conflict) → HasConflict D.meaning cx.new (known_results cache.new.entries.items) }
-    ensures frames { AreFramesWithin D.meaning cx.old input search.old.frames search.new.frames
-        (λ width. question_bound (max D.FIXPOINT_STEP_LIMIT 1) width depth) }
-    ensures rises { search.old.frames ≤ search.new.frames }
-    ensures full { result ≡ Err (Stop.Fault GraphFault.Full) → D.meaning.IsFull cx.new }
-    ensures limits { search.old.limits_met ≡ true → search.new.limits_met ≡ true }
-    ensures no_limit { search.old.limits_met ≡ false → search.new.limits_met ≡ true
-        → IsNotPlainOver D.meaning cx.old search.old.stack.items input (cond overflowed 0 depth) }
-    ensures within { IfOk result (λ o. SearchStaysWithin D.meaning cx.old search.old cache.old input cx.new search.new cache.new o.result) }
 {
     let level = search.stack.len();
     let Some(nested) = search.budget.depth_for::<D>(level, depth, overflowed) else {
