@@ -153,9 +153,7 @@ impl<D: Delegate> CachedResults<D> {
         if let Some(number) = self.goals.get_index_of(input) {
             return Ok(number);
         }
-        let Ok(key) = cx.copy_input(input) else {
-            return Err(AllocError);
-        };
+        let key = cx.copy_input(input)?;
         let (number, _) = self.goals.insert_full(key)?;
         Ok(number)
     }
@@ -369,9 +367,7 @@ impl<D: Delegate> CachedResults<D> {
         ensures entry { IfOk result (IsUseOf self.now.entries.items place) }
     {
         let entry = &self.entries[place];
-        let Ok(copy) = cx.copy_result(&entry.result) else {
-            return Err(AllocError);
-        };
+        let copy = cx.copy_result(&entry.result)?;
         Ok(Cached {
             result: copy,
             depth: entry.depth,

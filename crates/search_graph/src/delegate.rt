@@ -1,10 +1,11 @@
 //! What a search is given: a context with goals and results, and frames that evaluate a goal step by step.
 
-ghost use Rattle.std.specs.Prelude.{◌≡◌, ◌↔◌, [], ℕ, ◌<◌, ◌≤◌, IfOk, IfErr, IsSome, true, false};
+ghost use Rattle.std.specs.Prelude.{◌≡◌, ◌↔◌, [], ℕ, ◌<◌, ◌≤◌, IfOk, IsSome, true, false};
 ghost use Rattle.search_graph.specs.Meaning.{Meaning, KeepsContext, IsReply, IsDue, Steps, IsFair, IsLawful};
-ghost use Rattle.type_terms.specs.declared.Fault.TheVariants.{Memory, Full};
+ghost use Rattle.type_terms.specs.declared.Fault.TheVariants.{Full};
 
 use search_paths::PathKind;
+use std::alloc::AllocError;
 use std::hash::Hash;
 use type_terms::Fault;
 
@@ -20,14 +21,12 @@ pub trait Cx {
     type AmbiguityInfo: Drop;
 
     /// Returns the same input. Fails if memory is refused.
-    fn copy_input(&self, input: &Self::Input) -> Result<Self::Input, Fault>
-        ensures copy { IfOk result (λ copy. copy ≡ input.now) }
-        ensures memory { IfErr result (λ fault. fault ≡ Memory) };
+    fn copy_input(&self, input: &Self::Input) -> Result<Self::Input, AllocError>
+        ensures copy { IfOk result (λ copy. copy ≡ input.now) };
 
     /// Returns the same result. Fails if memory is refused.
-    fn copy_result(&self, of: &Self::Result) -> Result<Self::Result, Fault>
-        ensures copy { IfOk result (λ copy. copy ≡ of.now) }
-        ensures memory { IfErr result (λ fault. fault ≡ Memory) };
+    fn copy_result(&self, of: &Self::Result) -> Result<Self::Result, AllocError>
+        ensures copy { IfOk result (λ copy. copy ≡ of.now) };
 
     /// Inputs that are equal are the same value.
     ghost same_input: { (a b : Self.Input) → Self.Input.eq a b ≡ true → a ≡ b };

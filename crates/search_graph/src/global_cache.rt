@@ -1,6 +1,6 @@
 //! The public interface of a cache.
 
-ghost use Rattle.std.specs.Prelude.{◌≡◌, ◌<◌, ◌≤◌, [], length, IsOkAnd};
+ghost use Rattle.std.specs.Prelude.{◌≡◌, ◌<◌, ◌≤◌, [], length};
 ghost use Rattle.search_graph.specs.Cache.{AreJustified};
 ghost use Rattle.search_graph.specs.declared.global_cache.TheConstants.{MAX_KEPT_RESULTS};
 
@@ -8,7 +8,6 @@ use crate::cache::CachedResults;
 use crate::delegate::Delegate;
 use std::alloc::Global;
 use std::marker::Model;
-use type_terms::Fault;
 
 /// How many results a cache keeps at most from one root goal to the next.
 pub const MAX_KEPT_RESULTS: usize = 262_144;
@@ -37,12 +36,12 @@ impl<D: Delegate> Drop for GlobalCache<D> {
 
 impl<D: Delegate> GlobalCache<D> {
     /// Returns a cache without entries, without allocating.
-    pub fn new(alloc: Global) -> Result<Self, Fault>
-        ensures { IsOkAnd result (λ cache. cache ≡ []) }
+    pub fn new(alloc: Global) -> Self
+        ensures { result ≡ [] }
     {
-        Ok(GlobalCache {
+        GlobalCache {
             results: CachedResults::new(alloc),
-        })
+        }
     }
 
     /// Forgets all results if there are more than `MAX_KEPT_RESULTS`, so that a cache has at most these and those of one root goal.

@@ -1,6 +1,6 @@
 //! The search graph: the public interface of a search.
 
-ghost use Rattle.std.specs.Prelude.{◌≡◌, ◌+◌, ◌≤◌, ◌⊎◌, ◌↔◌, max, IfOk, IsOkAnd, IsTrue, true, false};
+ghost use Rattle.std.specs.Prelude.{◌≡◌, ◌+◌, ◌≤◌, ◌⊎◌, ◌↔◌, max, IfOk, IsTrue, true, false};
 ghost use Rattle.search_graph.specs.Meaning.{KeepsContext};
 ghost use Rattle.search_graph.specs.Computed.{IsComputedOrGiven, MakesMisstep};
 ghost use Rattle.search_graph.specs.Answer.{IsSound};
@@ -19,7 +19,6 @@ use crate::search::Search;
 use search_paths::{EvaluationResult, PathKind};
 use std::alloc::Global;
 use std::marker::Model;
-use type_terms::Fault;
 
 /// A search with its stack.
 ///
@@ -56,15 +55,14 @@ impl<D: Delegate> Drop for SearchGraph<D> {
 
 impl<D: Delegate> SearchGraph<D> {
     /// Returns a search whose root goals have this depth, without allocating.
-    pub fn new(alloc: Global, root_depth: usize) -> Result<Self, Fault>
+    pub fn new(alloc: Global, root_depth: usize) -> Self
         requires { 1 ≤ root_depth }
-        ensures { IsOkAnd result
-            (λ graph. graph ≡ record { root_depth = root_depth; current_depth = 0; frames = 0; limits_met = false; spent = 0 }) }
+        ensures { result ≡ record { root_depth = root_depth; current_depth = 0; frames = 0; limits_met = false; spent = 0 } }
     {
-        Ok(SearchGraph {
+        SearchGraph {
             root_depth,
             search: Search::new(alloc),
-        })
+        }
     }
 
     /// Returns whether no goal is being evaluated.

@@ -245,9 +245,7 @@ impl<D: Delegate> Search<D> {
     {
         let (head, place) = at;
         let entry = &self.entries.lists[head][place];
-        let Ok(answer) = cx.copy_result(&entry.result) else {
-            return Err(AllocError);
-        };
+        let answer = cx.copy_result(&entry.result)?;
         let mut dependencies = Dependencies::new(self.alloc);
         dependencies.encountered_overflow = entry.encountered_overflow;
         dependencies.required_depth = entry.required_depth;
@@ -303,9 +301,7 @@ impl<D: Delegate> Search<D> {
             depth,
         } = goal;
         let kind = kind_of_path(&self.stack, nearest, step_kind);
-        let Ok(result) = cx.copy_result(&evaluation.result) else {
-            return Err(AllocError);
-        };
+        let result = cx.copy_result(&evaluation.result)?;
         let rests_on = Vec::from_slice(self.alloc, &evaluation.dependencies.heads)?;
         let none = NestedGoals::new(self.alloc);
         let nested_goals = mem::replace(&mut evaluation.dependencies.nested_goals, none);

@@ -1,5 +1,5 @@
 -- Instances of what is declared are made of such labels as their arguments are.
-use Rattle.std.proofs.Common.{◌≡◌, ℕ, zero, suc, Bool, true, false, not, ◌&&◌, ◌||◌, refl, sym, ◌∙◌, ap, subst}
+use Rattle.std.proofs.Common.{◌≡◌, ℕ, zero, suc, Bool, true, false, ◌&&◌, ◌||◌, refl, sym, ◌∙◌, subst}
 use Rattle.type_terms.specs.Promised.Label.{Label, Sort, of_type, of_const, of_lifetime, never, static, dynamic, principal, auto_trait, predicate, infer, param, placeholder, canonical, bound, inside}
 use Rattle.type_terms.specs.Promised.Trees.{Trees, none, tree, is_sort, sort_of, some_node, nth, shift, instantiate}
 use Rattle.type_terms.specs.Trees.{is_no_tree}

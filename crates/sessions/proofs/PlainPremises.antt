@@ -10,7 +10,7 @@ use Rattle.type_terms.specs.Trees.{arguments, fits}
 use Rattle.type_terms.specs.Promised.Worlds.{World, Reference, StructDecl, TraitDecl, ImplDecl, structs_named, traits_named, with_args, all_with_args}
 use Rattle.type_terms.proofs.ProofEntries.{map-in}
 use Rattle.type_terms.proofs.Fitting.{append-shut, head-shut, child-shut, next-shut}
-use Rattle.type_terms.proofs.Members.{here, there, in-filter, in-flat}
+use Rattle.type_terms.proofs.Members.{in-filter, in-flat}
 use Rattle.type_terms.proofs.Walking.{left, right}
 use Rattle.goal_evaluator.specs.Lists.{Every}
 use Rattle.candidate_model.specs.Declared.{are_terms, is_declared_view}

@@ -1,6 +1,6 @@
 -- What a crate sees of a text, without binders: up to lifetimes it is what rules are read from, no lifetime parameter stands in fields, and
 -- each impl begins with a parameter or a rigid type.
-use Rattle.std.proofs.Common.{◌≡◌, ◌⊎◌, ℕ, zero, suc, Bool, true, false, List, [], ◌∷◌, map, Some, Ok, inl, inr, refl, sym, ap, ◌∙◌, subst}
+use Rattle.std.proofs.Common.{◌≡◌, ◌⊎◌, ℕ, zero, suc, Bool, true, false, List, [], ◌∷◌, Some, Ok, inl, inr, refl, sym, ap, ◌∙◌, subst}
 use Rattle.std.specs.Prelude.{filter, slice_get}
 use Rattle.type_terms.specs.Promised.Trees.{Trees, none, tree, erase, some_node}
 use Rattle.type_terms.specs.Promised.Erased.{erased_reference, erased_struct, erased_trait, erased_impl, erased_world}
@@ -23,7 +23,6 @@ use Rattle.text_lowering.proofs.Begins.{texts-begin}
 use Rattle.text_lowering.proofs.SeenViews.{none-left}
 use Rattle.sessions.proofs.FormedViews.{map-in}
 use Rattle.sessions.proofs.WithoutLifetimes.{FieldsAreErased}
-use Rattle.type_terms.proofs.RenumberedRules.{cons-same as two}
 use Rattle.type_terms.proofs.TermBasics.{three as node}
 use Rattle.text_lowering.proofs.Plainly.{begins-plain, struct-erased, trait-erased}
 use Rattle.text_lowering.proofs.Basics.{label-erased}

@@ -1,14 +1,11 @@
 -- The self types of held impls.
-use Rattle.std.proofs.Common.{◌≡◌, true, List, [], ◌∷◌, ◌⊎◌, inl, inr, subst}
+use Rattle.std.proofs.Common.{◌≡◌, true, List, subst}
 use Rattle.type_terms.specs.Promised.Worlds.{ImplDecl}
-use Rattle.type_terms.specs.Promised.Proofs.{In}
 use Rattle.type_terms.proofs.ProofEntries.{map-in}
-use Rattle.type_terms.proofs.Members.{in-cases, in-nothing}
 use Rattle.type_terms.specs.Promised.Handles.{Entry}
 use Rattle.declarations.specs.Heads.{begins_declared}
 use Rattle.declarations.specs.Held.{ImplHeld, AreHeld}
 use Rattle.declarations.specs.Items.{Items, HeldImpl, impl_in, written}
-use Rattle.declarations.specs.Promised.Elaboration.{Each}
 use Rattle.candidate_model.specs.Meaning.{SelfTypesBegin}
 use Rattle.candidate_model.proofs.HeldViews.{each-of}
 

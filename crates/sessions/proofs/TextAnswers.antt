@@ -9,7 +9,7 @@ use Rattle.type_terms.proofs.Fitting.{same-reference-sound}
 use Rattle.type_terms.proofs.TermBasics.{same-references}
 use Rattle.type_terms.specs.Promised.Worlds.{World, CrateDecl, Reference}
 use Rattle.type_terms.specs.Promised.Proofs.{In, HasProof}
-use Rattle.type_terms.specs.Promised.Rules.{by_clause, rules, clause_rules, super_rules, same_reference, written_supertraits, strict_supertraits, strict_supertraits_within, elaborated}
+use Rattle.type_terms.specs.Promised.Rules.{by_clause, clause_rules, super_rules, same_reference, written_supertraits, strict_supertraits, strict_supertraits_within, elaborated}
 use Rattle.type_terms.proofs.Supertraits.{flat-same}
 use Rattle.type_terms.proofs.ProofEntries.{map-in}
 use Rattle.type_terms.proofs.Members.{here, in-map, flat-in}

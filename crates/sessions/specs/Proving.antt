@@ -1,5 +1,4 @@
 -- `prove` queries: how they are evaluated, outside coherence, and what is known of the answers.
-use Rattle.std.specs.Global.{Vec}
 use Rattle.std.specs.Prelude.{◌≡◌, ◌+◌, ◌⊎◌, ℕ, Bool, true, false, List, [], map, Option, Some, None, ◌∷◌}
 use Rattle.type_terms.specs.Promised.Label.{Label, Sort, of_type, of_const, canonical, bound}
 use Rattle.type_terms.specs.Promised.Trees.{Trees, some_node}

@@ -213,8 +213,8 @@ impl<'w> Session<'w> {
         ensures handles { IfOk result (λ session. session.handles ≡ limits.handles) }
         ensures frames { IfOk result (λ session. session.frames ≡ 0) }
     {
-        let graph = SearchGraph::new(alloc, limits.depth as usize)?;
-        let cache = GlobalCache::new(alloc)?;
+        let graph = SearchGraph::new(alloc, limits.depth as usize);
+        let cache = GlobalCache::new(alloc);
         let crate_id = view.crate_id;
         let (interner, declarations, frames_before) = view.into_parts();
         let solver = Solver::new(declarations);

@@ -16,7 +16,7 @@ use infer_table::certainty::MaybeCause;
 use infer_table::input::CanonicalInput;
 use infer_table::response::CanonicalResponse;
 use search_graph::Cx;
-use std::alloc::Global;
+use std::alloc::{AllocError, Global};
 use type_terms::Fault;
 use type_terms::interner::Interner;
 
@@ -138,11 +138,11 @@ impl<H: GoalHandler> Cx for SolverCx<H> {
 
     type AmbiguityInfo = MaybeCause;
 
-    fn copy_input(&self, input: &InputId) -> Result<InputId, Fault> {
+    fn copy_input(&self, input: &InputId) -> Result<InputId, AllocError> {
         Ok(*input)
     }
 
-    fn copy_result(&self, of: &Option<ResponseId>) -> Result<Option<ResponseId>, Fault> {
+    fn copy_result(&self, of: &Option<ResponseId>) -> Result<Option<ResponseId>, AllocError> {
         Ok(*of)
     }
 

@@ -5,6 +5,7 @@ ghost use Rattle.std.specs.Prelude.{◌≡◌, slice_get};
 ghost use Rattle.test_delegate.specs.Toy.{decided, asks_next, step_at};
 
 use search_graph::{Cx, Delegate, PathKind, Reply, Request};
+use std::alloc::AllocError;
 use type_terms::Fault;
 
 /// The answer no.
@@ -100,7 +101,7 @@ pub struct ToyFrame {
 }
 
 impl Cx for Scripts {
-    ghost use Rattle.std.specs.Prelude.{IfOk, IfErr, Ok};
+    ghost use Rattle.std.specs.Prelude.{IfOk, Ok};
     ghost use Rattle.std.proofs.lemmas.Bool.{eqb-true};
 
     type Input = usize;
@@ -109,17 +110,15 @@ impl Cx for Scripts {
 
     type AmbiguityInfo = ();
 
-    fn copy_input(&self, input: &usize) -> Result<usize, Fault>
+    fn copy_input(&self, input: &usize) -> Result<usize, AllocError>
         ensures copy { IfOk result (λ copy. copy ≡ input.now) }
-        ensures memory { IfErr result (λ fault. fault ≡ Fault.Memory) }
         ensures is { result ≡ Ok input.now }
     {
         Ok(*input)
     }
 
-    fn copy_result(&self, of: &u8) -> Result<u8, Fault>
+    fn copy_result(&self, of: &u8) -> Result<u8, AllocError>
         ensures copy { IfOk result (λ copy. copy ≡ of.now) }
-        ensures memory { IfErr result (λ fault. fault ≡ Fault.Memory) }
         ensures is { result ≡ Ok of.now }
     {
         Ok(*of)

@@ -12,7 +12,7 @@ returns-in-Some-clause-number g c =
 
 pub invariant_of-self-clause-numbered : goal.invariant_of-self-clause-numbered
 invariant_of-self-clause-numbered g c = λ place e at.
-    numbers_after g.D.Cx.Input.PartialEq.eq c.insert_full.result c.args.self.now.goals.keys c.insert_full.new.self.keys c.in-Ok.key c.insert_full.ensures.keys c.insert_full.ensures.err e.input e.number (c.args.self.now.numbered place e at)
+    numbers_after g.D.Cx.Input.PartialEq.eq c.insert_full.result c.args.self.now.goals.keys c.insert_full.new.self.keys c.in_ok-key.key c.insert_full.ensures.keys c.insert_full.ensures.err e.input e.number (c.args.self.now.numbered place e at)
 
 pub returns-in-Some-clause-place : goal.returns-in-Some-clause-place
 returns-in-Some-clause-place g c = sym c.in-Some.ensures.index
@@ -23,13 +23,13 @@ returns-in-Some-clause-goals g c = ap (λ known. if known then c.args.self.now.g
 pub returns-clause-number : goal.returns-clause-number
 returns-clause-number g c =
     let stored = c.in_ok-number.ensures.stored in
-    stored.1 ∙ ap Some (sym (g.met.D.Cx.Cx.same_input _ _ stored.2) ∙ c.in-Ok.ensures.copy)
+    stored.1 ∙ ap Some (sym (g.met.D.Cx.Cx.same_input _ _ stored.2) ∙ c.in_ok-key.ensures.copy)
 
 pub returns-clause-others : goal.returns-clause-others
-returns-clause-others g c = numbers_after g.D.Cx.Input.PartialEq.eq c.insert_full.result c.args.self.now.goals.keys c.insert_full.new.self.keys c.in-Ok.key c.insert_full.ensures.keys c.insert_full.ensures.err
+returns-clause-others g c = numbers_after g.D.Cx.Input.PartialEq.eq c.insert_full.result c.args.self.now.goals.keys c.insert_full.new.self.keys c.in_ok-key.key c.insert_full.ensures.keys c.insert_full.ensures.err
 
 pub returns-clause-goals : goal.returns-clause-goals
-returns-clause-goals g c = c.in_ok-number.ensures.keys ∙ ap (insert_key g.D.Cx.Input.PartialEq.eq c.args.self.now.goals.keys) c.in-Ok.ensures.copy
+returns-clause-goals g c = c.in_ok-number.ensures.keys ∙ ap (insert_key g.D.Cx.Input.PartialEq.eq c.args.self.now.goals.keys) c.in_ok-key.ensures.copy
 
 pub returns-in_err-number-clause-others : goal.returns-in_err-number-clause-others
-returns-in_err-number-clause-others g c = numbers_after g.D.Cx.Input.PartialEq.eq c.insert_full.result c.args.self.now.goals.keys c.insert_full.new.self.keys c.in-Ok.key c.insert_full.ensures.keys c.insert_full.ensures.err
+returns-in_err-number-clause-others g c = numbers_after g.D.Cx.Input.PartialEq.eq c.insert_full.result c.args.self.now.goals.keys c.insert_full.new.self.keys c.in_ok-key.key c.insert_full.ensures.keys c.insert_full.ensures.err

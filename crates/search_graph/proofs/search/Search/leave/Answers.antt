@@ -9,7 +9,7 @@ use Rattle.search_graph.proofs.Entries.{entries_keep, entries_left, entries_with
 use Rattle.search_graph.proofs.search.Search.leave.Goals as goal
 
 pub returns-clause-left : goal.returns-clause-left
-returns-clause-left g c = (_, c.in-Ok.ensures.copy, c.in_ok-leave.ensures.added)
+returns-clause-left g c = (_, c.in_ok-result.ensures.copy, c.in_ok-leave.ensures.added)
 
 pub returns-clause-entries : goal.returns-clause-entries
 returns-clause-entries g c =
@@ -26,7 +26,7 @@ returns-clause-entries g c =
     let on = c.in_ok-rests_on.ensures.items ∙ c.deref-2.ensures.value in
     entries_left m (m.world cx) cx asked (steps_of m cx es) lists c.leave.new.self.lists.items c.args.nearest _ c.in_ok-leave.ensures.added inside
     (left_entry m cx es c.args.goal.step_kind c.args.nearest c.args.evaluation.dependencies.heads.items c.requires.place c.requires.nearest.0 c.requires.nearest.1
-    asked c.args.goal.input c.args.goal.depth c.args.evaluation.dependencies.encountered_overflow c.args.evaluation.result _ here refl c.in-Ok.ensures.copy on kind at refl c.reach_of.ensures c.requires.input c.requires.result c.requires.faithful)
+    asked c.args.goal.input c.args.goal.depth c.args.evaluation.dependencies.encountered_overflow c.args.evaluation.result _ here refl c.in_ok-result.ensures.copy on kind at refl c.reach_of.ensures c.requires.input c.requires.result c.requires.faithful)
     (entries_keep m (m.world cx) cx cx old asked (steps_of m cx es) lists (Keeps-refl m cx) c.list.ensures.asked c.requires.entries)
 
 pub returns-clause-within : goal.returns-clause-within
@@ -35,7 +35,7 @@ returns-clause-within g c before stay is =
     let cx = c.args.cx.now in
     let lists = c.args.self.now.entries.lists.items in
     let inside : c.args.nearest < length lists = subst (λ n. c.args.nearest < n) (sym c.args.self.now.listed) c.requires.place in
-    entries_within_left m (m.world cx) before cx lists c.leave.new.self.lists.items c.args.nearest _ c.in_ok-leave.ensures.added inside (rw c.in-Ok.ensures.copy is) stay
+    entries_within_left m (m.world cx) before cx lists c.leave.new.self.lists.items c.args.nearest _ c.in_ok-leave.ensures.added inside (rw c.in_ok-result.ensures.copy is) stay
 
 pub returns-clause-range : goal.returns-clause-range
 returns-clause-range g c =

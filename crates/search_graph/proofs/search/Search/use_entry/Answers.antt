@@ -37,7 +37,7 @@ returns-clause-answer g c =
     let at = c.requires.place.2 in
     let is = entry_read c.args.self.now.entries.lists.items c.args.at.0 c.args.at.1 at.0 at.1 c.index.result.now c.index-entry.result.now c.index.ensures c.index-entry.ensures in
     let on = c.in_ok-dependencies.ensures.items ∙ c.deref.ensures.value ∙ ap (λ z. z.heads.items) (sym is) in
-    let copy = c.in-Ok.ensures.copy ∙ ap (λ z. z.result) (sym is) in
+    let copy = c.in_ok-answer.ensures.copy ∙ ap (λ z. z.result) (sym is) in
     rw (on, copy)
     (entry_answers g.D.Delegate.meaning c.args.cx.now c.args.self.now.stack.items c.args.cache.now.asked.items c.args.self.now.entries.lists.items c.requires.entries c.requires.place.0 c.args.input.now c.args.step_kind c.requires.place.1 c.args.at.0 c.args.at.1 at)
 
@@ -53,7 +53,7 @@ returns-clause-faithful g c e here =
     let is = entry_read lists c.args.at.0 c.args.at.1 at.0 at.1 c.index.result.now c.index-entry.result.now c.index.ensures c.index-entry.ensures in
     let same = entry_read lists c.args.at.0 c.args.at.1 e here c.index.result.now c.index-entry.result.now c.index.ensures c.index-entry.ensures in
     let on = c.in_ok-dependencies.ensures.items ∙ c.deref.ensures.value ∙ ap (λ z. z.heads.items) (sym is) in
-    let copy = c.in-Ok.ensures.copy ∙ ap (λ z. z.result) (sym is) in
+    let copy = c.in_ok-answer.ensures.copy ∙ ap (λ z. z.result) (sym is) in
     rw (on, copy, same ∙ sym is, sym is)
     (entry_faithful g.D.Delegate.meaning c.args.cx.now c.args.self.now.stack.items c.args.cache.now.asked.items lists c.requires.entries c.requires.place.0 c.args.input.now c.args.step_kind c.requires.place.1 c.args.at.0 c.args.at.1 at)
 
@@ -61,7 +61,7 @@ pub returns-clause-within : goal.returns-clause-within
 returns-clause-within g c before stay =
     let at = c.requires.place.2 in
     let is = entry_read c.args.self.now.entries.lists.items c.args.at.0 c.args.at.1 at.0 at.1 c.index.result.now c.index-entry.result.now c.index.ensures c.index-entry.ensures in
-    let copy = c.in-Ok.ensures.copy ∙ ap (λ z. z.result) (sym is) in
+    let copy = c.in_ok-answer.ensures.copy ∙ ap (λ z. z.result) (sym is) in
     rw copy
     (entry_within g.D.Delegate.meaning c.args.cx.now c.args.self.now.stack.items c.args.cache.now.asked.items c.args.self.now.entries.lists.items c.requires.entries c.requires.place.0 c.args.input.now c.args.step_kind c.requires.place.1 c.args.at.0 c.args.at.1 at
     before stay)

@@ -14,4 +14,4 @@ invariant_of-result c =
     (c.new-cx.ensures.interner ∙ interner)
     (ap (λ (h : Solver). h.declarations) c.new-cx.ensures.handler ∙ declarations)
     (c.new-cx.ensures.ready (ready-by view.interner.entries parts.result.0.entries view.declarations c.new-solver.result.declarations (ap (λ (t : Terms). t.entries) interner) declarations c.requires.view.ready))
-    c.new-cx.ensures.limit c.in_ok-graph.graph c.in_ok-cache.cache c.in_ok-graph.ensures c.in_ok-cache.ensures
+    c.new-cx.ensures.limit c.new-graph.result c.new-cache.result c.new-graph.ensures c.new-cache.ensures
