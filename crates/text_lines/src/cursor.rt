@@ -1,5 +1,5 @@
 //! The tokens of a line that are not read yet.
-ghost use Rattle.std.specs.Prelude.{◌≡◌, [], ◌∷◌, MatchOption};
+ghost use Rattle.std.specs.Prelude.{◌≡◌, [], ◌∷◌, MatchOption, drop, if◌then◌else◌};
 ghost use Rattle.std.specs.Option.{option_map};
 ghost use Rattle.text_language.specs.Words.{open_angle, close_round, plus, mut_word};
 ghost use Rattle.text_language.specs.Tokens.{keyword, sign, arrow};
@@ -38,101 +38,88 @@ impl<'t, 'a> Cursor<'t, 'a> {
         Cursor { tokens, at: 0 }
     }
 
+    /// The next token. It is not read.
+    fn peek(&self) -> Option<Token<'a>>
+        ensures { MatchOption result (self.now ≡ []) (λ t. self.now ≡ token_of t ∷ drop 1 self.now) }
+    {
+        if self.at < self.tokens.len() {
+            Some(self.tokens[self.at])
+        } else {
+            None
+        }
+    }
+
+    /// Reads the next token, if it is the one that is looked for. Returns whether it is.
+    fn skip_if(&mut self, is_next: bool) -> bool
+        ensures same { result ≡ is_next }
+        ensures left { self.new ≡ (if is_next then drop 1 self.old else self.old) }
+    {
+        if is_next && self.at < self.tokens.len() {
+            self.at += 1;
+        }
+        is_next
+    }
+
     /// Reads the next token. Returns `None` after the last one.
     pub fn next(&mut self) -> Option<Token<'a>>
         ensures { MatchOption result (self.old ≡ []) (λ t. self.old ≡ token_of t ∷ self.new) }
     {
-        if self.at < self.tokens.len() {
-            let token = self.tokens[self.at];
-            self.at += 1;
-            Some(token)
-        } else {
-            None
-        }
+        let token = self.peek();
+        self.skip_if(token.is_some());
+        token
     }
 
     /// Reads `<`, if it is next.
     pub fn take_open_angle(&mut self) -> bool
         ensures { Took result (sign open_angle) NoAngle self.old self.new }
     {
-        if self.at < self.tokens.len() {
-            let token = self.tokens[self.at];
-            if let Token::Sign(Sign::OpenAngle) = token {
-                self.at += 1;
-                return true;
-            }
-        }
-        false
+        let is_next = matches!(self.peek(), Some(Token::Sign(Sign::OpenAngle)));
+        self.skip_if(is_next)
     }
 
     /// Reads `)`, if it is next.
     pub fn take_close_round(&mut self) -> bool
         ensures { Took result (sign close_round) NoRound self.old self.new }
     {
-        if self.at < self.tokens.len() {
-            let token = self.tokens[self.at];
-            if let Token::Sign(Sign::CloseRound) = token {
-                self.at += 1;
-                return true;
-            }
-        }
-        false
+        let is_next = matches!(self.peek(), Some(Token::Sign(Sign::CloseRound)));
+        self.skip_if(is_next)
     }
 
     /// Reads `+`, if it is next.
     pub fn take_plus(&mut self) -> bool
         ensures { Took result (sign plus) NoPlus self.old self.new }
     {
-        if self.at < self.tokens.len() {
-            let token = self.tokens[self.at];
-            if let Token::Sign(Sign::Plus) = token {
-                self.at += 1;
-                return true;
-            }
-        }
-        false
+        let is_next = matches!(self.peek(), Some(Token::Sign(Sign::Plus)));
+        self.skip_if(is_next)
     }
 
     /// Reads `->`, if it is next.
     pub fn take_arrow(&mut self) -> bool
         ensures { Took result arrow NoArrow self.old self.new }
     {
-        if self.at < self.tokens.len() {
-            let token = self.tokens[self.at];
-            if let Token::Arrow = token {
-                self.at += 1;
-                return true;
-            }
-        }
-        false
+        let is_next = matches!(self.peek(), Some(Token::Arrow));
+        self.skip_if(is_next)
     }
 
     /// Reads `mut`, if it is next.
     pub fn take_mut(&mut self) -> bool
         ensures { Took result (keyword mut_word) NoMut self.old self.new }
     {
-        if self.at < self.tokens.len() {
-            let token = self.tokens[self.at];
-            if let Token::Keyword(Keyword::Mut) = token {
-                self.at += 1;
-                return true;
-            }
-        }
-        false
+        let is_next = matches!(self.peek(), Some(Token::Keyword(Keyword::Mut)));
+        self.skip_if(is_next)
     }
 
     /// Reads a lifetime, if one is next.
     pub fn take_lifetime(&mut self) -> Option<&'a [u8]>
         ensures { TookLifetime (option_map text_of result) self.old self.new }
     {
-        if self.at < self.tokens.len() {
-            let token = self.tokens[self.at];
-            if let Token::Lifetime(name) = token {
-                self.at += 1;
-                return Some(name);
+        match self.peek() {
+            Some(Token::Lifetime(name)) => {
+                self.skip_if(true);
+                Some(name)
             }
+            _ => None,
         }
-        None
     }
 
     /// A separate cursor over the remaining tokens.
@@ -156,83 +143,47 @@ impl<'t, 'a> Cursor<'t, 'a> {
     pub fn is_name(&self) -> bool
         ensures { result ≡ is_name self.now }
     {
-        if self.at < self.tokens.len() {
-            let token = self.tokens[self.at];
-            if let Token::Name(_) = token {
-                return true;
-            }
-        }
-        false
+        matches!(self.peek(), Some(Token::Name(_)))
     }
 
     /// Reads `,`, if it is next.
     pub fn take_comma(&mut self) -> bool
         ensures { Passed result (after_comma self.old) self.old self.new }
     {
-        if self.at < self.tokens.len() {
-            let token = self.tokens[self.at];
-            if let Token::Sign(Sign::Comma) = token {
-                self.at += 1;
-                return true;
-            }
-        }
-        false
+        let is_next = matches!(self.peek(), Some(Token::Sign(Sign::Comma)));
+        self.skip_if(is_next)
     }
 
     /// Reads `:`, if it is next.
     pub fn take_colon(&mut self) -> bool
         ensures { Passed result (after_colon self.old) self.old self.new }
     {
-        if self.at < self.tokens.len() {
-            let token = self.tokens[self.at];
-            if let Token::Sign(Sign::Colon) = token {
-                self.at += 1;
-                return true;
-            }
-        }
-        false
+        let is_next = matches!(self.peek(), Some(Token::Sign(Sign::Colon)));
+        self.skip_if(is_next)
     }
 
     /// Reads `(`, if it is next.
     pub fn take_open_round(&mut self) -> bool
         ensures { Passed result (after_open_round self.old) self.old self.new }
     {
-        if self.at < self.tokens.len() {
-            let token = self.tokens[self.at];
-            if let Token::Sign(Sign::OpenRound) = token {
-                self.at += 1;
-                return true;
-            }
-        }
-        false
+        let is_next = matches!(self.peek(), Some(Token::Sign(Sign::OpenRound)));
+        self.skip_if(is_next)
     }
 
     /// Reads `uses`, if it is next.
     pub fn take_uses(&mut self) -> bool
         ensures { Passed result (after_uses self.old) self.old self.new }
     {
-        if self.at < self.tokens.len() {
-            let token = self.tokens[self.at];
-            if let Token::Keyword(Keyword::Uses) = token {
-                self.at += 1;
-                return true;
-            }
-        }
-        false
+        let is_next = matches!(self.peek(), Some(Token::Keyword(Keyword::Uses)));
+        self.skip_if(is_next)
     }
 
     /// Reads `where`, if it is next.
     pub fn take_where(&mut self) -> bool
         ensures { Passed result (after_where self.old) self.old self.new }
     {
-        if self.at < self.tokens.len() {
-            let token = self.tokens[self.at];
-            if let Token::Keyword(Keyword::Where) = token {
-                self.at += 1;
-                return true;
-            }
-        }
-        false
+        let is_next = matches!(self.peek(), Some(Token::Keyword(Keyword::Where)));
+        self.skip_if(is_next)
     }
 
     /// Reads a name. Fails unless it is next.
