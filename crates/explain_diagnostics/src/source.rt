@@ -1,6 +1,8 @@
 //! The lines of a text.
 
-ghost use Rattle.std.specs.Prelude.{◌≡◌, ◌≤◌};
+ghost use Rattle.std.specs.Prelude.{◌≡◌, ◌<◌, ◌≤◌, ◌-◌, length};
+ghost use Rattle.std.specs.List.{HoldsAt, IsAfterLastMatch};
+ghost use Rattle.explain_diagnostics.specs.Files.{CountsInFile, begins_by};
 
 use crate::span::Place;
 use std::alloc::{AllocError, Global};
@@ -28,35 +30,45 @@ pub struct OwnLine<'t> {
     pub is_last: bool,
 }
 
-/// The file of a line: the last one that begins at it or before.
-fn part_of<'t>(parts: &[Part<'t>], line: u32) -> Part<'t> {
-    let mut found = Part {
-        line: 1,
-        start: 0,
-        name: "",
-    };
-    for part in parts {
-        if part.line <= line {
-            found = *part;
-        }
+/// How many files there are up to the file of a line. That is the last one that begins at the line or before.
+fn files_up_to(parts: &[Part<'_>], line: u32) -> usize
+    ensures last { IsAfterLastMatch (begins_by line) parts.now result }
+    ensures within { result ≤ length parts.now }
+{
+    let mut count = parts.len();
+    while 0 < count && line < parts[count - 1].line {
+        count -= 1;
     }
-    found
+    count
+}
+
+/// The last one of so many files. The whole text is one file if there is none.
+fn last_part<'t>(parts: &[Part<'t>], count: usize) -> Part<'t>
+    requires { count ≤ length parts.now }
+    ensures { 0 < count → HoldsAt (λ p. result ≡ p) parts.now (count - 1) }
+{
+    if count == 0 {
+        return Part {
+            line: 1,
+            start: 0,
+            name: "",
+        };
+    }
+    parts[count - 1]
 }
 
 /// A line of a text with these files.
 pub fn own_line<'t>(parts: &[Part<'t>], line: u32) -> OwnLine<'t>
-    ensures { result.line ≡ line }
+    ensures line { result.line ≡ line }
+    ensures file { CountsInFile parts.now result }
 {
-    let part = part_of(parts, line);
-    let is_last = match parts.last() {
-        Some(last) => last.line == part.line,
-        None => true,
-    };
+    let count = files_up_to(parts, line);
+    let part = last_part(parts, count);
     OwnLine {
         line,
         number: line.saturating_add(1).saturating_sub(part.line),
         name: part.name,
-        is_last,
+        is_last: count == parts.len(),
     }
 }
 
@@ -83,12 +95,13 @@ impl<'t> SourceFile<'t> {
 
     /// The file of the line with this number.
     pub(crate) fn part(&self, number: u32) -> Part<'t> {
-        part_of(self.parts, number)
+        last_part(self.parts, files_up_to(self.parts, number))
     }
 
     /// The line with this number, as it counts in its own file.
     pub fn own_line(&self, number: u32) -> OwnLine<'t>
-        ensures { result.line ≡ number }
+        ensures line { result.line ≡ number }
+        ensures file { CountsInFile self.now.parts.now result }
     {
         own_line(self.parts, number)
     }

@@ -1,7 +1,7 @@
 //! The tokens of a line.
 
 ghost use Rattle.std.specs.Prelude.{◌<◌, ◌≤◌, ◌≡◌, ◌+◌, length, All, IfOk, slice_range};
-ghost use Rattle.explain_diagnostics.specs.Places.{IsPartOfLine};
+ghost use Rattle.explain_diagnostics.specs.Places.{CoverUpTo, IsPartOfLine};
 
 use crate::span::Place;
 use std::alloc::{AllocError, Global};
@@ -44,7 +44,8 @@ fn token_end(line: &[u8], start: usize) -> usize
 ///
 /// For a line of the grammar these are its tokens. Any other line has some too.
 pub fn token_places(alloc: Global, line: &[u8]) -> Result<Vec<Place>, AllocError>
-    ensures { IfOk result (λ places. All (IsPartOfLine (length line.now)) places.items) }
+    ensures within { IfOk result (λ places. All (IsPartOfLine (length line.now)) places.items) }
+    ensures covered { IfOk result (λ places. CoverUpTo line.now places.items (length line.now)) }
 {
     let mut places = Vec::new(alloc);
     let mut at = 0;
