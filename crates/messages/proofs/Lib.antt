@@ -1,1 +1,2 @@
+pub mod LastChild
 pub mod MarkedTexts

@@ -57,6 +57,25 @@ pub record AddsChild (old new : Diagnostic) (level : Level) (text : List ℕ) : 
   pub added : child_sentences new ≡ child_sentences old ++ record { level = level; says = text; marked = []; labelled = [] } ∷ []
   pub rest : new ≡ record old { children = new.children }
 
+-- The last element is replaced by what it becomes. If there is none, nothing is.
+abbrev pub change_last : {X : Type 0} → (X → X) → List X → List X
+change_last becomes [] = []
+change_last becomes (x ∷ []) = becomes x ∷ []
+change_last becomes (x ∷ y ∷ ys) = x ∷ change_last becomes (y ∷ ys)
+
+-- The last child becomes another one, and nothing else changes.
+pub record ChangesLast (old new : Diagnostic) (becomes : Child → Child) : Type 0 where
+  pub changed : child_sentences new ≡ change_last becomes (child_sentences old)
+  pub rest : new ≡ record old { children = new.children }
+
+-- The child with one mark more behind its others, with this label.
+abbrev pub marked_more : Span → Bool → List ℕ → Child → Child
+marked_more span is_primary label c = record c { marked = c.marked ++ (span, is_primary) ∷ []; labelled = c.labelled ++ label ∷ [] }
+
+-- The child with a longer message.
+abbrev pub saying_more : List ℕ → Child → Child
+saying_more more c = record c { says = c.says ++ more }
+
 -- The row of a goal and of why it holds.
 abbrev pub told_row : ℕ → Piece → Sentence → Row
 told_row depth goal reason = record { depth = depth; goal = piece_words goal; reason = sentence_text reason; impl_line = impl_line_of reason }

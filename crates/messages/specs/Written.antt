@@ -1,5 +1,5 @@
 -- What a sentence says: its fixed words, and its parts in place of each `{}`.
-use Rattle.std.specs.Prelude.{◌≡◌, ℕ, Bool, false, string_bytes, Option, Some, None, List, [], ◌∷◌, ◌++◌, map, take, drop, length, codes, if◌then◌else◌, ◌==◌, nat_le}
+use Rattle.std.specs.Prelude.{◌≡◌, ℕ, false, string_bytes, Option, Some, None, List, [], ◌∷◌, ◌++◌, map, take, drop, length, codes, if◌then◌else◌, ◌==◌, nat_le}
 use Rattle.std.specs.Fmt.{decimal}
 use Rattle.std.specs.Slice.Iter.{iter_rest}
 use Rattle.std.specs.declared.slice.Iter.{Iter}
@@ -10,9 +10,9 @@ use Rattle.messages.specs.declared.sentences.Piece.{Piece}
 use Rattle.messages.specs.declared.sentences.Piece.TheVariants.{Text, Name, Number, Line, Reference, ImplAtLine, ImplOfCore}
 use Rattle.messages.specs.declared.sentences.Sentence.{Sentence}
 
--- A name. One of more bytes than the limit is cut.
-abbrev pub cut_name : ℕ → List ℕ → List ℕ
-cut_name limit bytes = if nat_le (length bytes) limit then map shown bytes else map shown (take limit bytes) ++ codes ".."
+-- A name. One of more than 120 bytes is cut.
+abbrev pub cut_name : List ℕ → List ℕ
+cut_name bytes = if nat_le (length bytes) 120 then map shown bytes else map shown (take 120 bytes) ++ codes ".."
 
 -- A line as it counts in its own file, with the name of that unless it is the last one.
 abbrev pub own_line_text : OwnLine → List ℕ
@@ -21,7 +21,7 @@ own_line_text own = if own.is_last then decimal own.number else decimal own.numb
 -- A part as it is written.
 abbrev pub piece_words : Piece → List ℕ
 piece_words (Text text) = text.now
-piece_words (Name name) = cut_name 120 name.bytes.now
+piece_words (Name name) = cut_name name.bytes.now
 piece_words (Number number) = decimal number
 piece_words (Line line) = own_line_text line
 piece_words (Reference subject bound) = subject.now ++ codes ": " ++ bound.now

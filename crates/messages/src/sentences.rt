@@ -98,13 +98,13 @@ pub fn with_four<'t>(template: &'static str, pieces: [Piece<'t>; 4]) -> Sentence
 }
 
 /// Appends a name, cut if it is long.
-fn push_name(out: &mut TextWriter, name: &[u8], limit: usize)
-    ensures { Appends out.old out.new (cut_name limit name.now) }
+fn push_name(out: &mut TextWriter, name: &[u8])
+    ensures { Appends out.old out.new (cut_name name.now) }
 {
-    if name.len() <= limit {
+    if name.len() <= TYPE_LIMIT {
         out.push_shown(name);
     } else {
-        out.push_shown(&name[..limit]);
+        out.push_shown(&name[..TYPE_LIMIT]);
         out.push_str("..");
     }
 }
@@ -126,7 +126,7 @@ fn push_piece(out: &mut TextWriter, piece: Piece<'_>)
 {
     match piece {
         Piece::Text(text) => out.push_str(text),
-        Piece::Name(name) => push_name(out, name.bytes, TYPE_LIMIT),
+        Piece::Name(name) => push_name(out, name.bytes),
         Piece::Number(number) => out.push_number("", number),
         Piece::Line(own) => push_own_line(out, own),
         Piece::Reference(subject, bound) => {

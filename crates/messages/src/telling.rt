@@ -3,7 +3,7 @@
 ghost use Rattle.std.specs.Prelude.{◌≡◌, [], false, true, string_bytes, IfNone, IfOk, IfSome, OnOk, OnSome};
 ghost use Rattle.std.specs.declared.result.Result.TheVariants.{Ok};
 ghost use Rattle.explain_diagnostics.specs.declared.diagnostic.Level.TheVariants.{Help, Note};
-ghost use Rattle.messages.specs.Told.{AddsChild, AddsMark, AddsRow, KeepsMessage, told_row};
+ghost use Rattle.messages.specs.Told.{AddsChild, AddsMark, AddsRow, ChangesLast, KeepsMessage, marked_more, saying_more, told_row};
 ghost use Rattle.messages.specs.Written.{sentence_text};
 
 use crate::sentences::{Piece, Sentence, impl_line_in, plain, sentence_text, with_one};
@@ -166,7 +166,8 @@ impl Telling {
 
     /// Adds a mark with a label to the last child.
     fn mark_last(&mut self, span: Span, is_primary: bool, label: Sentence<'_>)
-        ensures { KeepsMessage self.old self.new }
+        ensures told { self.new.is_refused ≡ false → ChangesLast self.old.told self.new.told (marked_more span is_primary (sentence_text label.entry)) }
+        ensures message { KeepsMessage self.old self.new }
     {
         if let Some(label) = self.sentence_text(label) {
             if let Some(child) = self.told.children.last_mut() {
@@ -182,21 +183,24 @@ impl Telling {
 
     /// Marks what the last child is about, without a label.
     pub fn mark_child(&mut self, span: Span)
-        ensures { KeepsMessage self.old self.new }
+        ensures told { self.new.is_refused ≡ false → ChangesLast self.old.told self.new.told (marked_more span true []) }
+        ensures message { KeepsMessage self.old self.new }
     {
         self.mark_last(span, true, plain(""));
     }
 
     /// Marks another part in the last child, with a label.
     pub fn mark_child_beside(&mut self, span: Span, label: Sentence<'_>)
-        ensures { KeepsMessage self.old self.new }
+        ensures told { self.new.is_refused ≡ false → ChangesLast self.old.told self.new.told (marked_more span false (sentence_text label.entry)) }
+        ensures message { KeepsMessage self.old self.new }
     {
         self.mark_last(span, false, label);
     }
 
     /// Appends to the message of the last child.
     pub fn extend_child(&mut self, more: Sentence<'_>)
-        ensures { KeepsMessage self.old self.new }
+        ensures told { self.new.is_refused ≡ false → ChangesLast self.old.told self.new.told (saying_more (sentence_text more.entry)) }
+        ensures message { KeepsMessage self.old self.new }
     {
         if let Some(more) = self.sentence_text(more) {
             if let Some(child) = self.told.children.last_mut() {

@@ -1,4 +1,4 @@
-use Rattle.std.proofs.Common.{◌≡◌, ◌++◌, append_assoc, ap, sym, ◌∙◌, string_bytes, codes}
+use Rattle.std.proofs.Common.{◌++◌, append_assoc, ap, sym, ◌∙◌, string_bytes, codes}
 use Rattle.messages.specs.Written.{own_line_text, piece_words}
 use Rattle.messages.proofs.sentences.push_piece.Goals as goal
 
