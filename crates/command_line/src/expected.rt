@@ -2,8 +2,8 @@
 //!
 //! After a line `// expect: WORDS` the next line has an answer that begins with these words. Any other answer is the best of its kind.
 
-ghost use Rattle.std.specs.Prelude.{◌≡◌, ◌≤◌, ◌<◌, true, false, length, IfNone, OnSome};
-ghost use Rattle.command_line.specs.Expected.{is_as_expected, may_follow};
+ghost use Rattle.std.specs.Prelude.{◌≡◌, ◌≤◌, ◌<◌, true, false, length, IfNone, IfSome, OnSome};
+ghost use Rattle.command_line.specs.Expected.{HaveOutput, is_as_expected, may_follow};
 
 use crate::shown::ShownBytes;
 use std::fmt;
@@ -120,7 +120,10 @@ struct Answers<'t> {
 }
 
 impl<'t> Answers<'t> {
-    fn of(part: Part, output: &'t [u8]) -> Answers<'t> {
+    fn of(part: Part, output: &'t [u8]) -> Answers<'t>
+        ensures part { result.part ≡ part }
+        ensures left { result.left.now ≡ output.now }
+    {
         Answers { part, left: output }
     }
 
@@ -182,6 +185,7 @@ impl<'t> Expectations<'t> {
     pub fn new(text: &'t [u8], output: &'t [u8]) -> Expectations<'t>
         ensures refused { result.is_refused ≡ false }
         ensures text { result.text.now ≡ text.now }
+        ensures output { HaveOutput result output.now }
     {
         Expectations {
             text,
@@ -197,6 +201,7 @@ impl<'t> Expectations<'t> {
     /// The next answer of a part.
     fn next_answer(&mut self, part: Part) -> Option<&'t [u8]>
         ensures text { self.new.text ≡ self.old.text }
+        ensures line { self.new.line ≡ self.old.line }
         ensures refused { self.new.is_refused ≡ self.old.is_refused }
     {
         match part {
@@ -209,6 +214,8 @@ impl<'t> Expectations<'t> {
     /// Reads a line: what is found, and the number of the line that it is found of.
     fn read(&mut self, line: &'t [u8]) -> Option<(usize, Surprise<'t>)>
         ensures text { self.new.text ≡ self.old.text }
+        ensures counted { self.old.line ≤ self.new.line }
+        ensures found { IfSome result (λ p. p.0 ≤ self.new.line) }
         ensures refused { self.new.is_refused ≡ self.old.is_refused }
     {
         let before = self.line;
@@ -228,6 +235,8 @@ impl<'t> Expectations<'t> {
 
     /// The next line of which something is found that is not as expected, by its number from 1. `None` at the end of the text.
     pub fn next(&mut self) -> Option<(usize, Surprise<'t>)>
+        ensures counted { self.old.line ≤ self.new.line }
+        ensures found { IfSome result (λ p. p.0 ≤ self.new.line) }
         ensures some { OnSome result (self.new.is_refused ≡ true) }
         ensures none { IfNone result (self.new.is_refused ≡ self.old.is_refused) }
         ensures read { IfNone result (length self.new.text.now ≡ 0) }
