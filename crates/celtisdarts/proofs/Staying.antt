@@ -1,5 +1,6 @@
 -- Calls of a session, one after the other.
 use Rattle.std.proofs.Common.{◌≡◌, ◌∙◌, ℕ, Bool, ap, sym, subst}
+use Rattle.coherence.proofs.KeptLines.{stays-on}
 use Rattle.explain_texts.specs.Sessions.Checking.{HasJudged, IsJudgedAt}
 use Rattle.explain_texts.specs.Sessions.Promised.Promises.{view_in}
 use Rattle.explain_texts.specs.Sessions.Promised.Subjects.{Subject, StaysOn}
@@ -15,22 +16,6 @@ judged-after a b x k j r h =
     (subst (λ c. IsJudgedAt a.depth (view_in b.declarations c) c k j r) (sym x.of_crate)
     (subst (λ d. IsJudgedAt a.depth (view_in d a.of_crate) a.of_crate k j r) (sym x.declarations) h))
 
--- two calls
-pub stays-then : (a b c : Subject) → StaysOn a b → StaysOn b c → StaysOn a c
-stays-then a b c x y = record {
-  declarations = y.declarations ∙ x.declarations;
-  of_crate = y.of_crate ∙ x.of_crate;
-  depth = y.depth ∙ x.depth;
-  handles = y.handles ∙ x.handles;
-  terms = λ i e h. y.terms i e (x.terms i e h);
-}
-
 -- three calls
 pub stays-after : (a b c d : Subject) → StaysOn a b → StaysOn b c → StaysOn c d → StaysOn a d
-stays-after a b c d x y z = record {
-  declarations = z.declarations ∙ y.declarations ∙ x.declarations;
-  of_crate = z.of_crate ∙ y.of_crate ∙ x.of_crate;
-  depth = z.depth ∙ y.depth ∙ x.depth;
-  handles = z.handles ∙ y.handles ∙ x.handles;
-  terms = λ i e h. z.terms i e (y.terms i e (x.terms i e h));
-}
+stays-after a b c d x y z = stays-on a c d (stays-on a b c x y) z

@@ -1,7 +1,7 @@
 //! The answers to texts, one after the other.
 
-ghost use Rattle.std.specs.Prelude.{IfOk};
-ghost use Rattle.coherence.specs.Promised.Told.{TellsAll};
+ghost use Rattle.std.specs.Prelude.{◌≡◌, ℕ, List, false, true, IfOk};
+ghost use Rattle.coherence.specs.Promised.Told.{IsToldText, TellsAll};
 
 use crate::asking::answer_lines;
 use crate::ending::{DONE, Ending, Failure, worse};
@@ -43,7 +43,9 @@ impl<'w> Call<'w> {
         }
     }
 
-    fn is_check(self) -> bool {
+    fn is_check(self) -> bool
+        ensures { result ≡ true → self.entry.request.now.asked ≡ Asked.Checks }
+    {
         matches!(self.request.asked, Asked::Checks)
     }
 
@@ -79,7 +81,9 @@ fn has_colors(rt: &HostRuntime, request: &Request<'_>) -> bool {
 
 /// Answers a text with its lines alone: each is written when it is ready.
 fn answer_plain<W: Write>(alloc: Global, writer: &mut W, kept: Kept<'_>) -> Result<Ending, RunFault>
-    ensures { IfOk result (λ ending. TellsAll kept.entry.limits.depth kept.entry.text.now ending.status (W.contents writer.old) (W.contents writer.new)) }
+    ensures told { IfOk result
+        (λ ending. TellsAll kept.entry.limits.depth kept.entry.text.now ending.status (W.contents writer.old) (W.contents writer.new)) }
+    ensures refused { IfOk result (λ ending. ending.is_refused ≡ false) }
 {
     let mut reader = kept.text;
     let status = run(alloc, &mut reader, writer, kept.limits)?;
@@ -111,7 +115,12 @@ fn answer_text<W: Write, E: Write>(
     kept: Kept<'_>,
     writer: &mut W,
     errors: &mut E,
-) -> Result<Ending, RunFault> {
+) -> Result<Ending, RunFault>
+    ensures status { IfOk result
+        (λ ending. (lines : List ℕ) × IsToldText kept.entry.limits.depth kept.entry.text.now ending.status lines) }
+    ensures refused { IfOk result
+        (λ ending. ending.is_refused ≡ true → (call.entry.request.now.asked ≡ Asked.Checks) × (ending.status ≡ Status.Done)) }
+{
     if call.is_plain() && kept.parts.len() == 1 {
         return answer_plain(alloc, writer, kept);
     }

@@ -1,5 +1,5 @@
 use Rattle.std.proofs.Common.{rules, ◌≡◌, true}
-use Rattle.celtisdarts.proofs.Staying.{stays-then}
+use Rattle.coherence.proofs.KeptLines.{stays-on}
 use Rattle.celtisdarts.proofs.conflicts.tell_pairs.Goals as goal
 
 pub tell_later_pair-requires : goal.tell_later_pair-requires
@@ -8,4 +8,4 @@ tell_later_pair-requires c =
     c.in_ok-judge.ensures.overlap b
 
 pub returns-then-count-eq-LIST_LIMIT : goal.returns-then-count-eq-LIST_LIMIT
-returns-then-count-eq-LIST_LIMIT c = stays-then _ _ _ c.loop-pair.invariant c.judge.ensures.stays
+returns-then-count-eq-LIST_LIMIT c = stays-on _ _ _ c.loop-pair.invariant c.judge.ensures.stays
