@@ -11,13 +11,6 @@ ended_list old new (Some list) is some = (list, is)
 pub one_less : {X : Type 0} (old new : List X) (list : X) → old ≡ new ++ list ∷ [] → length old ≡ length new + 1
 one_less old new list is = let a = length-append new (list ∷ []) in let b = ap length is in omega (arith, a, b)
 
--- lists that are equal with one more element are equal
-pub all_but_last : {X : Type 0} (xs ys : List X) (x y : X) → xs ++ x ∷ [] ≡ ys ++ y ∷ [] → xs ≡ ys
-all_but_last [] [] x y h = refl
-all_but_last [] (b ∷ ys) x y h = let long = length-append ys (y ∷ []) in let size = ap length h in absurd (omega (arith, long, size))
-all_but_last (a ∷ xs) [] x y h = let long = length-append xs (x ∷ []) in let size = ap length h in absurd (omega (arith, long, size))
-all_but_last (a ∷ xs) (b ∷ ys) x y h = let rest : xs ++ x ∷ [] ≡ ys ++ y ∷ [] = cc in let same = all_but_last xs ys x y rest in cc
-
 -- what a success says, where there was no refusal
 pub not_refused : {T E P : Type 0} (r : Result T E) → OnOk r P → ((e : E) → r ≡ Err e → ⊥) → P
 not_refused (Ok x) p not = p

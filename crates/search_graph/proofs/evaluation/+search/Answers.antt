@@ -6,7 +6,7 @@ use Rattle.search_graph.specs.Meaning.{answer_count, request_of}
 use Rattle.search_paths.specs.Nested.{covered, one_goal}
 use Rattle.search_graph.proofs.Ranges.{in_range_none, in_range_one, in_range_gather, in_range_later}
 use Rattle.std.proofs.lemmas.Option.{none-some}
-use Rattle.std.proofs.lemmas.List.{length-append}
+use Rattle.std.proofs.lemmas.List.{length-append, same_from_push}
 use Rattle.search_graph.proofs.Depths.{depth_gathered}
 use Rattle.search_paths.specs.KeptPaths.{AreBelow, indices}
 use Rattle.search_paths.specs.Heads.{AreHeadsBut}
@@ -27,7 +27,6 @@ use Rattle.search_graph.proofs.Bounds.{frame_bound_runs, nested_within, one_more
 use Rattle.search_graph.proofs.Ends.{depth_after, held_after, answer_after, faithful_after, within_after}
 use Rattle.search_graph.proofs.Turns.{asked_in_turn, ended_in_turn, in_order_in_turn, told_in_turn, plain_in_turn}
 use Rattle.search_graph.proofs.Entries.{runs_begin, runs_leave, runs_left, entries_keep, entries_same, entries_within_keep, entries_within_begin, entries_within_leave}
-use Rattle.search_graph.proofs.EndedLists.{all_but_last}
 use Rattle.search_graph.proofs.evaluation.+search.Goals as goal
 use Rattle.type_terms.proofs.BooleanBasics.{true-false as true_not_false}
 
@@ -987,7 +986,7 @@ run_once-returns-in-End-clause-step g t c =
     in
     record {
       keeps = inv.keeps;
-      stack = all_but_last c.pop.new.self.stack.items es c.in-Some.entry c.args.entry (sym c.in-Some.ensures.stack ∙ inv.stack);
+      stack = (same_from_push c.pop.new.self.stack.items es c.in-Some.entry c.args.entry (sym c.in-Some.ensures.stack ∙ inv.stack)).0;
       entries = runs_leave m w c.loop-candidates.cx c.loop-candidates.cache.asked.items (steps_of m first es) (question_of m first c.args.entry) lists c.in-Some.left size (rw c.in-Some.ensures.ended at inv.entries);
       cache = inv.cache;
       goals = inv.goals;
