@@ -25,7 +25,7 @@ use Rattle.solver_graph.specs.Searching.{world_in}
 use Rattle.solver_graph.specs.declared.context.SolverCx.{SolverCx}
 
 -- what is posed in a table's trees is posed in the table
-posed-goal : (es : List Entry) (t : Table) (g : Goal) → IsPosedIn (table_trees es t) (goal_trees es g) → IsPosedGoal es t g
+pub posed-goal : (es : List Entry) (t : Table) (g : Goal) → IsPosedIn (table_trees es t) (goal_trees es g) → IsPosedGoal es t g
 posed-goal es t g p =
     let same = same-unknowns es t in
     record {

@@ -1,0 +1,6 @@
+pub mod Lists
+pub mod Leaving
+pub mod Noting
+pub mod Starting
+pub mod Selections
+pub mod Together

@@ -1,0 +1,3 @@
+pub mod Obligations
+pub mod Leaving
+pub mod Selecting
