@@ -1,0 +1,7 @@
+pub mod Results
+pub mod OwnTables
+pub mod Owned
+pub mod KeptDemands
+pub mod Faithful
+pub mod Calls
+pub mod Growing
