@@ -31,8 +31,8 @@ kinds-numbered d (crate_line n us) = refl
 kinds-numbered d (struct_line f n ps fs) = refl
 kinds-numbered d (trait_line f a n ps bs) = refl
 kinds-numbered d (impl_line ps h ks) = refl
-kinds-numbered d (prove_line c ps a ks) = refl
-kinds-numbered d (refute_line c ps a) = refl
+kinds-numbered d (prove_line c ps a bs ks) = refl
+kinds-numbered d (refute_line c ps a bs) = refl
 kinds-numbered d (later_line n) = refl
 kinds-numbered d (supers_line n) = refl
 
@@ -96,8 +96,8 @@ kinds-among d (crate_line n us) = refl
 kinds-among d (struct_line f n ps fs) = refl
 kinds-among d (trait_line f a n ps bs) = refl
 kinds-among d (impl_line ps h ks) = refl
-kinds-among d (prove_line c ps a ks) = refl
-kinds-among d (refute_line c ps a) = refl
+kinds-among d (prove_line c ps a bs ks) = refl
+kinds-among d (refute_line c ps a bs) = refl
 kinds-among d (later_line n) = refl
 kinds-among d (supers_line n) = refl
 

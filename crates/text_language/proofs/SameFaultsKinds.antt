@@ -75,8 +75,8 @@ free-param-is d (impl_line ps h ks) e =
     ∙ any-within (λ n. not (is_among n (names_among (header_mentions d h)))) (λ n. not (list_any (is_name_use n) (header_uses d h))) (ps.types ++ ps.consts)
     (λ n p. ap not (names-used n (header_mentions d h) ∙ ap (list_any (is_use_of n)) (header-mentions-are d h)
     ∙ any-given (is_other_sort d l) (is_use_of n) (is_name_use n) (no-trait d l n p) (header_uses d h) here))
-free-param-is d (prove_line c ps a ks) e = refl
-free-param-is d (refute_line c ps a) e = refl
+free-param-is d (prove_line c ps a bs ks) e = refl
+free-param-is d (refute_line c ps a bs) e = refl
 free-param-is d (later_line n) e = refl
 free-param-is d (supers_line n) e = refl
 
@@ -92,8 +92,8 @@ own-name-is d (crate_line n us) = refl
 own-name-is d (struct_line f n ps fs) = refl
 own-name-is d (trait_line f a n ps bs) = or-false (is_among n (names_among (flat_map (bound_mentions d) bs))) ∙ names-used n (flat_map (bound_mentions d) bs) ∙ ap (list_any (is_use_of n)) (bounds-used d bs)
 own-name-is d (impl_line ps h ks) = refl
-own-name-is d (prove_line c ps a ks) = refl
-own-name-is d (refute_line c ps a) = refl
+own-name-is d (prove_line c ps a bs ks) = refl
+own-name-is d (refute_line c ps a bs) = refl
 own-name-is d (later_line n) = refl
 own-name-is d (supers_line n) = refl
 
@@ -117,8 +117,8 @@ loaded-is d (struct_line f n ps fs) = refl
 loaded-is d (trait_line f a n ps bs) =
     or-false (a && nat_lt 0 (length (kinds_of ps) + length bs)) ∙ ap (λ b. a && b) (some-of (length (kinds_of ps)) (length bs))
 loaded-is d (impl_line ps h ks) = refl
-loaded-is d (prove_line c ps a ks) = refl
-loaded-is d (refute_line c ps a) = refl
+loaded-is d (prove_line c ps a bs ks) = refl
+loaded-is d (refute_line c ps a bs) = refl
 loaded-is d (later_line n) = refl
 loaded-is d (supers_line n) = refl
 
@@ -147,8 +147,8 @@ foreign-auto-is d (struct_line f n ps fs) e = refl
 foreign-auto-is d (trait_line f a n ps bs) e = refl
 foreign-auto-is d (impl_line ps h ks) e =
     or-false (is_auto_name d h.bound.trait && not (heads_own_struct d h.subject)) ∙ ap (λ b. is_auto_name d h.bound.trait && not b) (own-struct d ps h ks e h.subject)
-foreign-auto-is d (prove_line c ps a ks) e = refl
-foreign-auto-is d (refute_line c ps a) e = refl
+foreign-auto-is d (prove_line c ps a bs ks) e = refl
+foreign-auto-is d (refute_line c ps a bs) e = refl
 foreign-auto-is d (later_line n) e = refl
 foreign-auto-is d (supers_line n) e = refl
 
@@ -164,8 +164,8 @@ built-in-is d (impl_line ps h ks) = by (known d h.bound.trait)
     by (Some (a_crate i)) = refl
     by (Some (a_struct i c kinds)) = refl
     by (Some (a_trait i c a kinds)) = or-false (is_built_in (a_trait i c a kinds))
-built-in-is d (prove_line c ps a ks) = refl
-built-in-is d (refute_line c ps a) = refl
+built-in-is d (prove_line c ps a bs ks) = refl
+built-in-is d (refute_line c ps a bs) = refl
 built-in-is d (later_line n) = refl
 built-in-is d (supers_line n) = refl
 
@@ -232,7 +232,7 @@ refutes-is d (crate_line n us) = refl
 refutes-is d (struct_line f n ps fs) = refl
 refutes-is d (trait_line f a n ps bs) = refl
 refutes-is d (impl_line ps h ks) = refl
-refutes-is d (prove_line c ps a ks) = refl
-refutes-is d (refute_line c ps a) = or-false (nat_lt 0 (length (kinds_of ps))) ∙ some-in (length (kinds_of ps))
+refutes-is d (prove_line c ps a bs ks) = refl
+refutes-is d (refute_line c ps a bs) = or-false (nat_lt 0 (length (kinds_of ps))) ∙ some-in (length (kinds_of ps))
 refutes-is d (later_line n) = refl
 refutes-is d (supers_line n) = refl

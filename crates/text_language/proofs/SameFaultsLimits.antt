@@ -1,5 +1,5 @@
 -- The tests for a `dyn` and for limits: faults 15 and 16.
-use Rattle.std.proofs.Common.{◌≡◌, ℕ, suc, ◌+◌, Bool, true, false, cond, List, [], ◌∷◌, ◌++◌, map, filter, fold, count_by, length, bytes_eq, refl, sym, ap, ◌∙◌, arith}
+use Rattle.std.proofs.Common.{◌≡◌, ℕ, suc, ◌+◌, Bool, true, false, cond, List, [], ◌∷◌, ◌++◌, map, filter, fold, count_by, length, bytes_eq, refl, sym, ap, ◌∙◌, arith, max}
 use Rattle.std.specs.Prelude.{◌||◌, ◌&&◌, not, ◌^◌, nat_le, nat_lt, if◌then◌else◌}
 use Rattle.std.specs.Option.{option_map_or}
 use Rattle.std.specs.List.{list_any}
@@ -177,8 +177,8 @@ kind-passes d (crate_line n us) = two (is_long n) (nat_lt 4095 (length d.crates)
 kind-passes d (struct_line f n ps fs) = ap (λ k. (is_long n || nat_le 65535 (last_items d)) || (nat_lt 64 k || false)) (types-counted d [] 1 fs) ∙ three (is_long n) (nat_le 65535 (last_items d)) (nat_lt 64 (types_count fs))
 kind-passes d (trait_line f a n ps bs) = three (is_long n) (nat_le 65535 (last_items d)) (nat_lt 64 (length bs))
 kind-passes d (impl_line ps h ks) = or-false (nat_le 65535 (if d.in_section then last_later d else last_items d) || nat_lt 64 (length ks))
-kind-passes d (prove_line c ps a ks) = or-false (nat_le 65536 (length d.questions) || nat_lt 64 (length ks))
-kind-passes d (refute_line c ps a) = refl
+kind-passes d (prove_line c ps a bs ks) = or-false (nat_le 65536 (length d.questions) || nat_lt 64 (max (length (a ∷ bs)) (length ks)))
+kind-passes d (refute_line c ps a bs) = or-false (nat_le 65536 (length d.questions) || nat_lt 64 (length (a ∷ bs)))
 kind-passes d (later_line n) = refl
 kind-passes d (supers_line n) = refl
 

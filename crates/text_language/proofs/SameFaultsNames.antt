@@ -65,8 +65,8 @@ misplaced-is d (crate_line n us) = refl
 misplaced-is d (struct_line f n ps fs) = sym (misplaced d.in_section (nat_le (length d.crates) 1))
 misplaced-is d (trait_line f a n ps bs) = sym (misplaced d.in_section (nat_le (length d.crates) 1))
 misplaced-is d (impl_line ps h ks) = sym (impl-misplaced d.in_section (nat_le (length d.crates) 1))
-misplaced-is d (prove_line c ps a ks) = refl
-misplaced-is d (refute_line c ps a) = refl
+misplaced-is d (prove_line c ps a bs ks) = refl
+misplaced-is d (refute_line c ps a bs) = refl
 misplaced-is d (later_line n) = refl
 misplaced-is d (supers_line n) = refl
 
@@ -76,8 +76,8 @@ declared-is d (crate_line n us) = or-false (is_some (known d n))
 declared-is d (struct_line f n ps fs) = or-false (is_some (known d n))
 declared-is d (trait_line f a n ps bs) = or-false (is_some (known d n))
 declared-is d (impl_line ps h ks) = refl
-declared-is d (prove_line c ps a ks) = refl
-declared-is d (refute_line c ps a) = refl
+declared-is d (prove_line c ps a bs ks) = refl
+declared-is d (refute_line c ps a bs) = refl
 declared-is d (later_line n) = refl
 declared-is d (supers_line n) = refl
 
@@ -214,8 +214,8 @@ same-crates d (crate_line n us) = refl
 same-crates d (struct_line f n ps fs) = refl
 same-crates d (trait_line f a n ps bs) = refl
 same-crates d (impl_line ps h ks) = refl
-same-crates d (prove_line c ps a ks) = refl
-same-crates d (refute_line c ps a) = refl
+same-crates d (prove_line c ps a bs ks) = refl
+same-crates d (refute_line c ps a bs) = refl
 same-crates d (later_line n) = refl
 same-crates d (supers_line n) = refl
 
@@ -325,8 +325,8 @@ unseen-are d (crate_line n us) t = no-crate-unseen d (crate_line n us) us
 unseen-are d (struct_line f n ps fs) t = let l : Line = struct_line f n ps fs in judged d l t (λ h. ap not (same-sees d l (impl_owner d) h))
 unseen-are d (trait_line f a n ps bs) t = let l : Line = trait_line f a n ps bs in judged d l t (λ h. ap not (same-sees d l (impl_owner d) h))
 unseen-are d (impl_line ps h ks) t = judged d (impl_line ps h ks) t (λ h. refl)
-unseen-are d (prove_line c ps a ks) t = judged d (prove_line c ps a ks) t (asker-judges d c)
-unseen-are d (refute_line c ps a) t = judged d (refute_line c ps a) t (asker-judges d c)
+unseen-are d (prove_line c ps a bs ks) t = judged d (prove_line c ps a bs ks) t (asker-judges d c)
+unseen-are d (refute_line c ps a bs) t = judged d (refute_line c ps a bs) t (asker-judges d c)
 unseen-are d (later_line n) t = refl
 unseen-are d (supers_line n) t = refl
 

@@ -122,7 +122,8 @@ line-covered d (impl_line ps h ks) =
     both (header_mentions d h) (flat_map (clause_mentions d) ks)
     (both (bound_mentions d h.bound) (type_mention 1 ∷ type_mentions d [] 2 of_type h.subject) (bound-covered d h.bound) (type-covered d [] 2 of_type h.subject refl))
     (each (clause_mentions d) (clause-covered d) ks)
-line-covered d (prove_line c ps a ks) = both (clause_mentions d a) (flat_map (clause_mentions d) ks) (clause-covered d a) (each (clause_mentions d) (clause-covered d) ks)
-line-covered d (refute_line c ps a) = clause-covered d a
+line-covered d (prove_line c ps a bs ks) =
+    both (flat_map (clause_mentions d) (a ∷ bs)) (flat_map (clause_mentions d) ks) (each (clause_mentions d) (clause-covered d) (a ∷ bs)) (each (clause_mentions d) (clause-covered d) ks)
+line-covered d (refute_line c ps a bs) = each (clause_mentions d) (clause-covered d) (a ∷ bs)
 line-covered d (later_line n) = empty
 line-covered d (supers_line n) = empty

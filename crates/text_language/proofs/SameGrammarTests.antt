@@ -221,6 +221,12 @@ fields-same (and_type t ts) = to_right (literal "(") (literal ",") (literal ")")
 clauses-same : (ks : List Clause) → enclosed "where" "," "" (map clause_tests ks) ≡ tests_of (where_spelling (map clause_spelling ks))
 clauses-same ks = ap (enclosed "where" "," "") (each-same clause_tests clause_spelling clause-same ks) ∙ where-same (map clause_spelling ks)
 
+-- a bound and further ones
+asked-same : (a : Clause) (bs : List Clause) → enclosed "" "," "" (map clause_tests (a ∷ bs)) ≡ tests_of (clause_spelling a ++ behind comma (map clause_spelling bs))
+asked-same a bs =
+    append-nil _ ∙ joined _ _ (clause_spelling a) (behind comma (map clause_spelling bs)) (clause-same a)
+    (ap (flat_map (λ q. literal "," ++ q)) (each-same clause_tests clause_spelling clause-same bs) ∙ behind-same comma (literal ",") refl (map clause_spelling bs))
+
 struct-same : (n : List ℕ) (ps : Params) (fs : Types) → literal "struct" ++ name_with "" n ++ params_tests ps ++ enclosed "(" "," ")" (types_tests fs) ≡ tests_of (keyword struct_word ∷ name n ∷ (params_spelling ps ++ fields_spelling fs))
 struct-same n ps fs = onward (keyword struct_word ∷ name n ∷ []) _ _ (joined _ _ (params_spelling ps) (fields_spelling fs) (params-same ps) (fields-same fs))
 
@@ -242,10 +248,11 @@ line-same (impl_line ps h ks) =
     ∙ three (params_tests ps) (bound_tests h.bound) (literal "for") (type_tests h.subject ++ enclosed "where" "," "" (map clause_tests ks)) ∙ joined _ _ (params_spelling ps) _ (params-same ps)
     (joined _ _ (bound_spelling h.bound) _ (bound-same h.bound)
     (onward (keyword for_word ∷ []) _ _ (joined _ _ (type_spelling h.subject) (where_spelling (map clause_spelling ks)) (type-same h.subject) (clauses-same ks)))))
-line-same (prove_line c ps a ks) =
-    onward (keyword prove_word ∷ keyword in_word ∷ name c ∷ []) _ _ (append_assoc (params_tests ps) (clause_tests a) (enclosed "where" "," "" (map clause_tests ks)) ∙ joined _ _ (params_spelling ps) _ (params-same ps)
-    (joined _ _ (clause_spelling a) (where_spelling (map clause_spelling ks)) (clause-same a) (clauses-same ks)))
-line-same (refute_line c ps a) =
-    onward (keyword refute_word ∷ keyword in_word ∷ name c ∷ []) _ _ (joined _ _ (params_spelling ps) (clause_spelling a) (params-same ps) (clause-same a))
+line-same (prove_line c ps a bs ks) =
+    onward (keyword prove_word ∷ keyword in_word ∷ name c ∷ []) _ _ (append_assoc (params_tests ps) (enclosed "" "," "" (map clause_tests (a ∷ bs))) (enclosed "where" "," "" (map clause_tests ks)) ∙ joined _ _ (params_spelling ps) _ (params-same ps)
+    (joined _ _ (clause_spelling a ++ behind comma (map clause_spelling bs)) (where_spelling (map clause_spelling ks)) (asked-same a bs) (clauses-same ks)
+    ∙ ap tests_of (append_assoc (clause_spelling a) (behind comma (map clause_spelling bs)) (where_spelling (map clause_spelling ks)))))
+line-same (refute_line c ps a bs) =
+    onward (keyword refute_word ∷ keyword in_word ∷ name c ∷ []) _ _ (joined _ _ (params_spelling ps) _ (params-same ps) (asked-same a bs))
 line-same (later_line n) = refl
 line-same (supers_line n) = refl

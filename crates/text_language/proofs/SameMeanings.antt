@@ -13,13 +13,13 @@ use Rattle.text_language.specs.Declarations.{sorted_names}
 use Rattle.text_language.specs.Uses.{Use, crate_use, name_use, trait_use, lifetime_use, binder_use, variable_use, misfit_use, dyn_use, items_use, number_use, uses, type_uses, bound_uses, clause_uses, header_uses, params_of}
 use Rattle.text_language.specs.Faults.{first_of, tests, fault_of, declares_taken, is_taken_param, is_taken_binder, is_unknown_use, is_other_sort, is_bad_dyn, static_name, is_in_scope, is_crate, is_type_of, is_trait_of, is_line_param, is_param_of, variables_in, once}
 use Rattle.text_language.specs.Promised.Faults.{is_among, repeats, with_own}
-use Rattle.text_language.specs.Lowering.{crate_number, clause_reference}
+use Rattle.text_language.specs.Lowering.{Meanings, crate_number, clause_reference}
 use Rattle.text_language.specs.Adding.{added, item_meanings, question_meanings}
-use Rattle.text_language.specs.Promised.LineMeanings.{named_params, means, own_param, as_trees, bound_meaning, clause_meaning, with_line}
+use Rattle.text_language.specs.Promised.LineMeanings.{named_params, means, own_param, as_trees, bound_meaning, clause_meaning, question_added, with_line}
 use Rattle.text_language.specs.Promised.LineFaults.{variables_among}
 use Rattle.text_language.specs.Promised.Mentions.{clause_mentions}
 use Rattle.text_language.proofs.SameFaultsKinds.{variables-of}
-use Rattle.text_language.proofs.SameMentions.{clause-mentions-are}
+use Rattle.text_language.proofs.SameMentions.{clauses-mentions-are}
 use Rattle.text_language.proofs.SameMeaningsVariables.{as-variables, each-once}
 use Rattle.text_language.proofs.SameMeaningsNames.{not-false, kinds-are, names-are, as-many}
 use Rattle.text_language.proofs.SameMeaningsTypes.{UseFits, AllFit, first-fit, rest-fit, crate-numbered, fields-are, bounds-are, clause-from, clause-is, clauses-are}
@@ -102,26 +102,51 @@ abbrev in_crate : Declarations → NamedImpl → Declarations
 in_crate d i = record d { impls = d.impls ++ i ∷ [] }
 
 -- a question with these parts
-abbrev question_with : Declarations → List Variable → Bool → List (List ℕ) → ℕ → Reference → List Reference → Declarations
-question_with d vs r ns c a rs = record d {
+abbrev question_with : Declarations → List Variable → Bool → List (List ℕ) → ℕ → Reference → List Reference → List Reference → Declarations
+question_with d vs r ns c a fs rs = record d {
   questions = d.questions ++ record {
     is_refute = r;
     asker = c;
     params = ns;
     asked = a;
+    further = fs;
     clauses = rs;
     variables = vs;
   } ∷ [];
 }
 
 -- the variables of what is asked, each once
-named-once : (d : Declarations) (a : Clause)
-    → fold (λ r v. if list_any (λ w. bytes_eq v.0 w.text) r then r else r ++ record { text = v.0; kind = v.1 } ∷ []) [] (variables_among (clause_mentions d a))
-    ≡ as-variables (once (variables_in (clause_uses d a)))
-named-once d a =
+named-once : (d : Declarations) (ks : List Clause)
+    → fold (λ r v. if list_any (λ w. bytes_eq v.0 w.text) r then r else r ++ record { text = v.0; kind = v.1 } ∷ []) [] (variables_among (flat_map (clause_mentions d) ks))
+    ≡ as-variables (once (variables_in (flat_map (clause_uses d) ks)))
+named-once d ks =
     ap (λ (ms : List (List ℕ × Sort)). fold (λ r v. if list_any (λ w. bytes_eq v.0 w.text) r then r else r ++ record { text = v.0; kind = v.1 } ∷ []) [] ms)
-    (variables-of (clause_mentions d a) ∙ ap variables_in (clause-mentions-are d a))
-    ∙ each-once (variables_in (clause_uses d a))
+    (variables-of (flat_map (clause_mentions d) ks) ∙ ap variables_in (clauses-mentions-are d ks))
+    ∙ each-once (variables_in (flat_map (clause_uses d) ks))
+
+-- The variables of a query.
+abbrev asked-ones : Declarations → Clause → List Clause → List Variable
+asked-ones d a bs = as-variables (once (variables_in (flat_map (clause_uses d) (a ∷ bs))))
+
+-- A clause of a query with these parameters and variables.
+abbrev asked-clause : Declarations → Params → List Variable → Clause → Reference
+asked-clause d ps us = clause_meaning d (own_param ps placeholder) us
+
+-- A query whose crate and clauses mean the same by both definitions.
+question-same : (d : Declarations) (r : Bool) (c : List ℕ) (ps : Params) (a : Clause) (bs ks : List Clause) (e : Meanings)
+    → (means d c).0 ≡ crate_number (known d c) → asked-clause d ps (asked-ones d a bs) a ≡ clause_reference e a
+    → map (asked-clause d ps (asked-ones d a bs)) bs ≡ map (clause_reference e) bs → map (asked-clause d ps (asked-ones d a bs)) ks ≡ map (clause_reference e) ks
+    → question_added d r c ps a bs ks ≡ question_with d (asked-ones d a bs) r (names_of ps) (crate_number (known d c)) (clause_reference e a) (map (clause_reference e) bs) (map (clause_reference e) ks)
+question-same d r c ps a bs ks e n x y z =
+    let us = asked-ones d a bs in
+    let short = asked-clause d ps us in
+    let old = clause_reference e in
+    ap (λ vs. question_with d vs r (map (λ v. v.0) (named_params ps)) (means d c).0 (asked-clause d ps vs a) (map (asked-clause d ps vs) bs) (map (asked-clause d ps vs) ks)) (named-once d (a ∷ bs))
+    ∙ ap (λ ns. question_with d us r ns (means d c).0 (short a) (map short bs) (map short ks)) (names-are ps)
+    ∙ ap (λ i. question_with d us r (names_of ps) i (short a) (map short bs) (map short ks)) n
+    ∙ ap (λ k. question_with d us r (names_of ps) (crate_number (known d c)) k (map short bs) (map short ks)) x
+    ∙ ap (λ rs. question_with d us r (names_of ps) (crate_number (known d c)) (old a) rs (map short ks)) y
+    ∙ ap (question_with d us r (names_of ps) (crate_number (known d c)) (old a) (map old bs)) z
 
 pub with-line-is : (d : Declarations) (l : Line) → fault_of d l ≡ None → with_line d l ≡ added d l
 with-line-is d (crate_line n us) e =
@@ -149,30 +174,23 @@ with-line-is d (impl_line ps h ks) e =
     ∙ ap (λ r. made (length (kinds_of ps)) r (map short ks)) x
     ∙ ap (made (length (kinds_of ps)) (clause_reference old h)) y
     ∙ twice d.in_section (last_later d) (length d.impls) (λ i. in_later d (item i)) (λ i. in_crate d (item i))
-with-line-is d (prove_line c ps a ks) e =
-    let l = prove_line c ps a ks in
+with-line-is d (prove_line c ps a bs ks) e =
+    let l = prove_line c ps a bs ks in
     let v = all-fit d l e in
-    let old = question_meanings d l in
-    let vs = once (variables_in (clause_uses d a)) in
-    let us = as-variables vs in
-    let short = clause_meaning d (own_param ps placeholder) us in
-    let x = clause-is d l 0 placeholder placeholder question-params-stand vs (no-static d l e) a (first-fit d l (clause_uses d a) (flat_map (clause_uses d) ks) v.1) in
-    let y = clauses-are d l 0 placeholder placeholder question-params-stand vs (no-static d l e) ks (rest-fit d l (clause_uses d a) (flat_map (clause_uses d) ks) v.1) in
-    ap (λ xs. question_with d xs false (map (λ v. v.0) (named_params ps)) (means d c).0 (clause_meaning d (own_param ps placeholder) xs a) (map (clause_meaning d (own_param ps placeholder) xs) ks)) (named-once d a)
-    ∙ ap (λ ns. question_with d us false ns (means d c).0 (short a) (map short ks)) (names-are ps)
-    ∙ ap (λ i. question_with d us false (names_of ps) i (short a) (map short ks)) (crate-numbered d c v.0)
-    ∙ ap (λ r. question_with d us false (names_of ps) (crate_number (known d c)) r (map short ks)) x
-    ∙ ap (question_with d us false (names_of ps) (crate_number (known d c)) (clause_reference old a)) y
-with-line-is d (refute_line c ps a) e =
-    let l = refute_line c ps a in
+    let asked : List Use = flat_map (clause_uses d) (a ∷ bs) in
+    let vs = once (variables_in asked) in
+    let w = first-fit d l asked (flat_map (clause_uses d) ks) v.1 in
+    let x = clause-is d l 0 placeholder placeholder question-params-stand vs (no-static d l e) a (first-fit d l (clause_uses d a) (flat_map (clause_uses d) bs) w) in
+    let y = clauses-are d l 0 placeholder placeholder question-params-stand vs (no-static d l e) bs (rest-fit d l (clause_uses d a) (flat_map (clause_uses d) bs) w) in
+    let z = clauses-are d l 0 placeholder placeholder question-params-stand vs (no-static d l e) ks (rest-fit d l asked (flat_map (clause_uses d) ks) v.1) in
+    question-same d false c ps a bs ks (question_meanings d l) (crate-numbered d c v.0) x y z
+with-line-is d (refute_line c ps a bs) e =
+    let l = refute_line c ps a bs in
     let v = all-fit d l e in
-    let vs = once (variables_in (clause_uses d a)) in
-    let us = as-variables vs in
-    let short = clause_meaning d (own_param ps placeholder) us in
-    ap (λ xs. question_with d xs true (map (λ v. v.0) (named_params ps)) (means d c).0 (clause_meaning d (own_param ps placeholder) xs a) []) (named-once d a)
-    ∙ ap (λ ns. question_with d us true ns (means d c).0 (short a) []) (names-are ps)
-    ∙ ap (λ i. question_with d us true (names_of ps) i (short a) []) (crate-numbered d c v.0)
-    ∙ ap (λ r. question_with d us true (names_of ps) (crate_number (known d c)) r []) (clause-is d l 0 placeholder placeholder question-params-stand vs (no-static d l e) a v.1)
+    let vs = once (variables_in (flat_map (clause_uses d) (a ∷ bs))) in
+    let x = clause-is d l 0 placeholder placeholder question-params-stand vs (no-static d l e) a (first-fit d l (clause_uses d a) (flat_map (clause_uses d) bs) v.1) in
+    let y = clauses-are d l 0 placeholder placeholder question-params-stand vs (no-static d l e) bs (rest-fit d l (clause_uses d a) (flat_map (clause_uses d) bs) v.1) in
+    question-same d true c ps a bs [] (question_meanings d l) (crate-numbered d c v.0) x y refl
 with-line-is d (later_line n) e =
     ap (λ i. record d { sections = d.sections ++ i ∷ []; checks = d.checks ++ of_later (length d.sections) i ∷ []; in_section = true }) (crate-numbered d n (all-fit d (later_line n) e).0)
 with-line-is d (supers_line n) e = ap (λ i. record d { checks = d.checks ++ of_supers i ∷ [] }) (crate-numbered d n (all-fit d (supers_line n) e).0)

@@ -170,24 +170,24 @@ crates-same : (ns : List (List ℕ)) → used (map crate_mention ns) ≡ map cra
 crates-same [] = refl
 crates-same (n ∷ ns) = ap (λ u. crate_use n ∷ u) (crates-same ns)
 
-clauses-same : (d : Declarations) (ks : List Clause) → used (flat_map (clause_mentions d) ks) ≡ flat_map (clause_uses d) ks
-clauses-same d ks = each-same (clause_mentions d) (clause_uses d) (clause-mentions-are d) ks
+pub clauses-mentions-are : (d : Declarations) (ks : List Clause) → used (flat_map (clause_mentions d) ks) ≡ flat_map (clause_uses d) ks
+clauses-mentions-are d ks = each-same (clause_mentions d) (clause_uses d) (clause-mentions-are d) ks
 
 -- ---- lines
 pub mentions-are : (d : Declarations) (l : Line) → flat_map as_uses (line_mentions d l) ≡ uses d l
 mentions-are d (crate_line n us) = crates-same us
 mentions-are d (struct_line f n ps fs) = types-same d [] 1 fs
 mentions-are d (trait_line f a n ps bs) = each-same (bound_mentions d) (bound_uses d) (bound-mentions-are d) bs
-mentions-are d (impl_line ps h ks) = both (header_mentions d h) (flat_map (clause_mentions d) ks) (header-mentions-are d h) (clauses-same d ks)
-mentions-are d (prove_line c ps a ks) =
-    ap (λ u. crate_use c ∷ u) (both (clause_mentions d a) (flat_map (clause_mentions d) ks) (clause-mentions-are d a) (clauses-same d ks))
-mentions-are d (refute_line c ps a) = ap (λ u. crate_use c ∷ u) (clause-mentions-are d a)
+mentions-are d (impl_line ps h ks) = both (header_mentions d h) (flat_map (clause_mentions d) ks) (header-mentions-are d h) (clauses-mentions-are d ks)
+mentions-are d (prove_line c ps a bs ks) =
+    ap (λ u. crate_use c ∷ u) (both (flat_map (clause_mentions d) (a ∷ bs)) (flat_map (clause_mentions d) ks) (clauses-mentions-are d (a ∷ bs)) (clauses-mentions-are d ks))
+mentions-are d (refute_line c ps a bs) = ap (λ u. crate_use c ∷ u) (clauses-mentions-are d (a ∷ bs))
 mentions-are d (later_line n) = refl
 mentions-are d (supers_line n) = refl
 
 pub asked-mentions-are : (d : Declarations) (l : Line) → flat_map as_uses (asked_mentions d l) ≡ asked_uses d l
-asked-mentions-are d (prove_line c ps a ks) = clause-mentions-are d a
-asked-mentions-are d (refute_line c ps a) = clause-mentions-are d a
+asked-mentions-are d (prove_line c ps a bs ks) = clauses-mentions-are d (a ∷ bs)
+asked-mentions-are d (refute_line c ps a bs) = clauses-mentions-are d (a ∷ bs)
 asked-mentions-are d _ = refl
 
 pub params-same : (l : Line) → line_params l ≡ params_of l
@@ -195,8 +195,8 @@ params-same (crate_line n us) = refl
 params-same (struct_line f n ps fs) = refl
 params-same (trait_line f a n ps bs) = refl
 params-same (impl_line ps h ks) = refl
-params-same (prove_line c ps a ks) = refl
-params-same (refute_line c ps a) = refl
+params-same (prove_line c ps a bs ks) = refl
+params-same (refute_line c ps a bs) = refl
 params-same (later_line n) = refl
 params-same (supers_line n) = refl
 
@@ -218,13 +218,15 @@ more-than : (m n : ℕ) (vs : List (List ℕ × Sort)) → n ≡ m + length vs �
 more-than m n [] h = grind (arith, nat_tests)
 more-than m n (v ∷ vs) h = let k : n ≡ m + suc (length vs) = h in grind (arith, nat_tests)
 
--- A variable stands outside the asked reference if there are more in the line than in the reference.
+-- A variable stands outside the asked references if there are more in the line than in these.
 pub other-variables : (d : Declarations) (l : Line)
     → is_any (variables_in (other_uses (with_own d l) l)) ≡ nat_lt (length (variables_in (asked_uses d l))) (length (variables_in (uses (with_own d l) l)))
-other-variables d (prove_line c ps a ks) =
-    more-than (length (variables_in (clause_uses d a))) (length (variables_in (clause_uses d a ++ flat_map (clause_uses d) ks))) (variables_in (flat_map (clause_uses d) ks))
-    (variables-follow (clause_uses d a) (flat_map (clause_uses d) ks))
-other-variables d (refute_line c ps a) = more-than (length (variables_in (clause_uses d a))) (length (variables_in (clause_uses d a))) [] (omega arith)
+other-variables d (prove_line c ps a bs ks) =
+    let xs : List Use = flat_map (clause_uses d) (a ∷ bs) in
+    let ys : List Use = flat_map (clause_uses d) ks in
+    more-than (length (variables_in xs)) (length (variables_in (xs ++ ys))) (variables_in ys) (variables-follow xs ys)
+other-variables d (refute_line c ps a bs) =
+    let xs : List Use = flat_map (clause_uses d) (a ∷ bs) in more-than (length (variables_in xs)) (length (variables_in xs)) [] (omega arith)
 other-variables d (crate_line n us) = let u : List Use = uses d (crate_line n us) in more-than 0 (length (variables_in u)) (variables_in u) (omega arith)
 other-variables d (struct_line f n ps fs) =
     let u : List Use = uses (with_own d (struct_line f n ps fs)) (struct_line f n ps fs) in more-than 0 (length (variables_in u)) (variables_in u) (omega arith)

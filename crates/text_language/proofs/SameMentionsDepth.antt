@@ -244,11 +244,12 @@ line-deep L d (impl_line ps k ks) h =
     let xs : List Mention = header_mentions d k in
     let ys : List Mention = flat_map (clause_mentions d) ks in
     deep-both L 0 xs ys (clause_depth d k) (greatest_number (map (clause_depth d) ks)) (header-deep L d k (placed-left xs ys h)) (clauses-deep L d ks (placed-right xs ys h))
-line-deep L d (prove_line c ps k ks) h =
-    let xs : List Mention = clause_mentions d k in
+line-deep L d (prove_line c ps k bs ks) h =
+    let xs : List Mention = flat_map (clause_mentions d) (k ∷ bs) in
     let ys : List Mention = flat_map (clause_mentions d) ks in
-    deep-both L 0 xs ys (clause_depth d k) (greatest_number (map (clause_depth d) ks)) (clause-deep L d k (placed-left xs ys h)) (clauses-deep L d ks (placed-right xs ys h))
-line-deep L d (refute_line c ps k) h = clause-deep L d k h
+    deep-both L 0 xs ys (greatest_number (map (clause_depth d) (k ∷ bs))) (greatest_number (map (clause_depth d) ks)) (clauses-deep L d (k ∷ bs) (placed-left xs ys h))
+    (clauses-deep L d ks (placed-right xs ys h))
+line-deep L d (refute_line c ps k bs) h = clauses-deep L d (k ∷ bs) h
 line-deep L d (later_line n) h = deep-none L 0
 line-deep L d (supers_line n) h = deep-none L 0
 

@@ -34,12 +34,13 @@ impl_of d e ps h ks = record {
   item = record { name = if d.in_section then last_later d else length d.impls; home = impl_owner d; params = length (kinds_of ps); header = clause_reference e h; clauses = map (clause_reference e) ks };
 }
 
-abbrev pub question_of : Declarations → Meanings → Bool → List ℕ → Params → Clause → List Clause → Question
-question_of d e r c ps a ks = record {
+abbrev pub question_of : Declarations → Meanings → Bool → List ℕ → Params → Clause → List Clause → List Clause → Question
+question_of d e r c ps a bs ks = record {
   is_refute = r;
   asker = crate_number (known d c);
   params = names_of ps;
   asked = clause_reference e a;
+  further = map (clause_reference e) bs;
   clauses = map (clause_reference e) ks;
   variables = map (λ v. record { text = v.0; kind = v.1 }) e.variables;
 }
@@ -63,7 +64,7 @@ added d (crate_line n us) = record d { crates = d.crates ++ crate_of d n us ∷ 
 added d (struct_line f n ps fs) = record d { structs = d.structs ++ struct_of d (item_meanings d (struct_line f n ps fs) 0) f n ps fs ∷ [] }
 added d (trait_line f a n ps bs) = record d { traits = d.traits ++ trait_of d (item_meanings d (trait_line f a n ps bs) 1) f a n ps bs ∷ [] }
 added d (impl_line ps h ks) = with_impl d (impl_of d (item_meanings d (impl_line ps h ks) 0) ps h ks)
-added d (prove_line c ps a ks) = record d { questions = d.questions ++ question_of d (question_meanings d (prove_line c ps a ks)) false c ps a ks ∷ [] }
-added d (refute_line c ps a) = record d { questions = d.questions ++ question_of d (question_meanings d (refute_line c ps a)) true c ps a [] ∷ [] }
+added d (prove_line c ps a bs ks) = record d { questions = d.questions ++ question_of d (question_meanings d (prove_line c ps a bs ks)) false c ps a bs ks ∷ [] }
+added d (refute_line c ps a bs) = record d { questions = d.questions ++ question_of d (question_meanings d (refute_line c ps a bs)) true c ps a bs [] ∷ [] }
 added d (later_line n) = with_section d (crate_number (known d n))
 added d (supers_line n) = with_supers d (crate_number (known d n))

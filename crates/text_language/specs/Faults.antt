@@ -1,6 +1,6 @@
 -- The tests for faults, by number. They read a line that follows the grammar, and the declarations of the lines before
 -- it.
-use Rattle.std.specs.Prelude.{ℕ, ◌^◌, Bool, true, false, ◌||◌, ◌&&◌, not, List, [], ◌∷◌, ◌++◌, length, Option, Some, None, is_some, count_by, filter, nat_le, nat_lt, ◌==◌, if◌then◌else◌, codes}
+use Rattle.std.specs.Prelude.{ℕ, ◌^◌, max, Bool, true, false, ◌||◌, ◌&&◌, not, List, [], ◌∷◌, ◌++◌, length, Option, Some, None, is_some, count_by, filter, nat_le, nat_lt, ◌==◌, if◌then◌else◌, codes}
 use Rattle.std.specs.List.{list_any, flat_map}
 use Rattle.std.specs.Option.{option_map_or, option_and_then}
 use Rattle.std.specs.Str.{bytes_eq}
@@ -80,8 +80,8 @@ number_of_crate _ = None
 -- - of an impl in a section: the crate of the section
 -- - of another item: its own crate
 abbrev pub looking_crate : Declarations → Line → Option ℕ
-looking_crate d (prove_line c ps a ks) = option_and_then number_of_crate (known d c)
-looking_crate d (refute_line c ps a) = option_and_then number_of_crate (known d c)
+looking_crate d (prove_line c ps a bs ks) = option_and_then number_of_crate (known d c)
+looking_crate d (refute_line c ps a bs) = option_and_then number_of_crate (known d c)
 looking_crate d (crate_line n us) = None
 looking_crate d (later_line n) = None
 looking_crate d (supers_line n) = None
@@ -177,7 +177,7 @@ abbrev pub implements_built_in : Declarations → Line → Bool
 implements_built_in d (impl_line ps h ks) = option_map_or is_built_in (known d h.bound.trait) false
 implements_built_in d _ = false
 
--- ---- fault 13: a variable that is not in the bound of a query, or that is of two kinds
+-- ---- fault 13: a variable that is not in the bounds of a query, or that is of two kinds
 abbrev pub variables_in : List Use → List (List ℕ × Sort)
 variables_in [] = []
 variables_in (variable_use p n ∷ us) = (n, p) ∷ variables_in us
@@ -197,7 +197,7 @@ has_stray_variable d l =
 
 -- ---- fault 14: parameters in `refute`
 abbrev pub refutes_params : Line → Bool
-refutes_params (refute_line c ps a) = not (length (kinds_of ps) == 0)
+refutes_params (refute_line c ps a bs) = not (length (kinds_of ps) == 0)
 refutes_params _ = false
 
 -- ---- fault 15: a `dyn` without a bound, with two bounds that are not auto traits, with one that is not first, with a
@@ -256,7 +256,7 @@ variable_limit = 16
 abbrev pub list_limit : ℕ
 list_limit = 12
 
--- The limit of fields, where-clauses, and bounds of a trait or a `dyn`.
+-- The limit of fields, where-clauses, and bounds of a trait, a `dyn` or a query.
 abbrev pub part_limit : ℕ
 part_limit = 64
 
@@ -287,21 +287,21 @@ once (v ∷ vs) = v ∷ filter (λ w. not (bytes_eq w.0 v.0)) (once vs)
 -- and of `supers` lines.
 abbrev pub is_full : Declarations → Line → Bool
 is_full d (crate_line n us) = nat_lt crate_limit (length d.crates)
-is_full d (prove_line c ps a ks) = nat_le question_limit (length d.questions)
-is_full d (refute_line c ps a) = nat_le question_limit (length d.questions)
+is_full d (prove_line c ps a bs ks) = nat_le question_limit (length d.questions)
+is_full d (refute_line c ps a bs) = nat_le question_limit (length d.questions)
 is_full d (later_line n) = false
 is_full d (supers_line n) = false
 is_full d (impl_line ps h ks) = nat_le item_limit (if d.in_section then last_later d else last_items d)
 is_full d _ = nat_le item_limit (last_items d)
 
--- The number of fields, bounds or where-clauses of the line.
+-- The number of fields, bounds or where-clauses of the line. Of a query with both it is the greater one.
 abbrev pub parts : Line → ℕ
 parts (crate_line n us) = 0
 parts (struct_line f n ps fs) = types_count fs
 parts (trait_line f a n ps bs) = length bs
 parts (impl_line ps h ks) = length ks
-parts (prove_line c ps a ks) = length ks
-parts (refute_line c ps a) = 0
+parts (prove_line c ps a bs ks) = max (length (a ∷ bs)) (length ks)
+parts (refute_line c ps a bs) = length (a ∷ bs)
 parts (later_line n) = 0
 parts (supers_line n) = 0
 

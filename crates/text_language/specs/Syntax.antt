@@ -153,8 +153,8 @@ if_so b k = if b then keyword k ∷ [] else []
 -- struct = ["fundamental"] "struct" name [params] ["(" type {"," type} ")"]
 -- trait  = ["fundamental"] ["auto"] "trait" name [params] [":" bound {"+" bound}]
 -- impl   = "impl" [params] bound "for" type [where]
--- prove  = "prove" "in" name [params] type ":" bound [where]
--- refute = "refute" "in" name [params] type ":" bound
+-- prove  = "prove" "in" name [params] type ":" bound {"," type ":" bound} [where]
+-- refute = "refute" "in" name [params] type ":" bound {"," type ":" bound}
 -- later  = "later" name
 -- supers = "supers" "in" name
 abbrev pub spelling : Line → List Token
@@ -164,7 +164,10 @@ spelling (trait_line f a n ps bs) =
     if_so f fundamental_word ++ (if_so a auto_word ++ keyword trait_word ∷ name n ∷ (params_spelling ps ++ bounds_spelling (map bound_spelling bs)))
 spelling (impl_line ps h ks) =
     keyword impl_word ∷ (params_spelling ps ++ (bound_spelling h.bound ++ keyword for_word ∷ (type_spelling h.subject ++ where_spelling (map clause_spelling ks))))
-spelling (prove_line c ps a ks) = keyword prove_word ∷ keyword in_word ∷ name c ∷ (params_spelling ps ++ (clause_spelling a ++ where_spelling (map clause_spelling ks)))
-spelling (refute_line c ps a) = keyword refute_word ∷ keyword in_word ∷ name c ∷ (params_spelling ps ++ clause_spelling a)
+spelling (prove_line c ps a bs ks) =
+    keyword prove_word ∷ keyword in_word ∷ name c
+    ∷ (params_spelling ps ++ (clause_spelling a ++ (behind comma (map clause_spelling bs) ++ where_spelling (map clause_spelling ks))))
+spelling (refute_line c ps a bs) =
+    keyword refute_word ∷ keyword in_word ∷ name c ∷ (params_spelling ps ++ (clause_spelling a ++ behind comma (map clause_spelling bs)))
 spelling (later_line n) = keyword later_word ∷ name n ∷ []
 spelling (supers_line n) = keyword supers_word ∷ keyword in_word ∷ name n ∷ []

@@ -154,21 +154,21 @@ uses d (crate_line n us) = map crate_use us
 uses d (struct_line f n ps fs) = types_uses d [] fs
 uses d (trait_line f a n ps bs) = flat_map (bound_uses d) bs
 uses d (impl_line ps h ks) = header_uses d h ++ flat_map (clause_uses d) ks
-uses d (prove_line c ps a ks) = crate_use c ∷ (clause_uses d a ++ flat_map (clause_uses d) ks)
-uses d (refute_line c ps a) = crate_use c ∷ clause_uses d a
+uses d (prove_line c ps a bs ks) = crate_use c ∷ (flat_map (clause_uses d) (a ∷ bs) ++ flat_map (clause_uses d) ks)
+uses d (refute_line c ps a bs) = crate_use c ∷ flat_map (clause_uses d) (a ∷ bs)
 uses d (later_line n) = crate_use n ∷ []
 uses d (supers_line n) = crate_use n ∷ []
 
--- What the bound of a query mentions.
+-- What the bounds of a query mention.
 abbrev pub asked_uses : Declarations → Line → List Use
-asked_uses d (prove_line c ps a ks) = clause_uses d a
-asked_uses d (refute_line c ps a) = clause_uses d a
+asked_uses d (prove_line c ps a bs ks) = flat_map (clause_uses d) (a ∷ bs)
+asked_uses d (refute_line c ps a bs) = flat_map (clause_uses d) (a ∷ bs)
 asked_uses d _ = []
 
 -- What the rest of the line mentions.
 abbrev pub other_uses : Declarations → Line → List Use
-other_uses d (prove_line c ps a ks) = flat_map (clause_uses d) ks
-other_uses d (refute_line c ps a) = []
+other_uses d (prove_line c ps a bs ks) = flat_map (clause_uses d) ks
+other_uses d (refute_line c ps a bs) = []
 other_uses d l = uses d l
 
 abbrev pub params_of : Line → Params
@@ -176,8 +176,8 @@ params_of (crate_line n us) = record { lifetimes = []; types = []; consts = [] }
 params_of (struct_line f n ps fs) = ps
 params_of (trait_line f a n ps bs) = ps
 params_of (impl_line ps h ks) = ps
-params_of (prove_line c ps a ks) = ps
-params_of (refute_line c ps a) = ps
+params_of (prove_line c ps a bs ks) = ps
+params_of (refute_line c ps a bs) = ps
 params_of (later_line n) = record { lifetimes = []; types = []; consts = [] }
 params_of (supers_line n) = record { lifetimes = []; types = []; consts = [] }
 
@@ -244,7 +244,7 @@ line_depth d (crate_line n us) = 0
 line_depth d (struct_line f n ps fs) = types_depth d fs
 line_depth d (trait_line f a n ps bs) = greatest_number (map (bound_depth d) bs)
 line_depth d (impl_line ps h ks) = max (clause_depth d h) (greatest_number (map (clause_depth d) ks))
-line_depth d (prove_line c ps a ks) = max (clause_depth d a) (greatest_number (map (clause_depth d) ks))
-line_depth d (refute_line c ps a) = clause_depth d a
+line_depth d (prove_line c ps a bs ks) = max (greatest_number (map (clause_depth d) (a ∷ bs))) (greatest_number (map (clause_depth d) ks))
+line_depth d (refute_line c ps a bs) = greatest_number (map (clause_depth d) (a ∷ bs))
 line_depth d (later_line n) = 0
 line_depth d (supers_line n) = 0

@@ -138,7 +138,7 @@ stray_variable = base ∷ show ∷ show_for (codes "impl Show for ?x") (variable
 abbrev pub refuted_parameter : List Said
 refuted_parameter =
     base ∷ show
-    ∷ (codes "refute in base <T> T: Show", refute_line (codes "base") (of_types (codes "T" ∷ [])) (is (plain_name (codes "T")) (bare (codes "Show")))) ∷ []
+    ∷ (codes "refute in base <T> T: Show", refute_line (codes "base") (of_types (codes "T" ∷ [])) (is (plain_name (codes "T")) (bare (codes "Show"))) []) ∷ []
 
 abbrev pub two_principals : List Said
 two_principals =
@@ -173,7 +173,7 @@ struct_in_section = base ∷ num ∷ later_base ∷ struct_a ∷ []
 
 abbrev pub struct_behind_question : List Said
 struct_behind_question =
-    base ∷ num ∷ later_base ∷ (codes "refute in base u8: Num", refute_line (codes "base") no_params (is u8 (bare (codes "Num")))) ∷ struct_a ∷ []
+    base ∷ num ∷ later_base ∷ (codes "refute in base u8: Num", refute_line (codes "base") no_params (is u8 (bare (codes "Num"))) []) ∷ struct_a ∷ []
 
 abbrev supers_base : Said
 supers_base = (codes "supers in base", supers_line (codes "base"))
@@ -236,7 +236,7 @@ TwoSections =
     let ss =
     base ∷ num ∷ v ∷ (codes "crate first uses base", crate_line (codes "first") (codes "base" ∷ [])) ∷ later_base
     ∷ (codes "impl<T> Num for V<T>", impl_line (of_types (codes "T" ∷ [])) (is (named (codes "V") (one (plain_name (codes "T")))) (bare (codes "Num"))) [])
-    ∷ (codes "refute in base u8: Num", refute_line (codes "base") no_params (is u8 (bare (codes "Num"))))
+    ∷ (codes "refute in base u8: Num", refute_line (codes "base") no_params (is u8 (bare (codes "Num"))) [])
     ∷ supers_base
     ∷ (codes "impl<T> Num for &T", impl_line (of_types (codes "T" ∷ [])) (is (reference_to None false (plain_name (codes "T"))) (bare (codes "Num"))) [])
     ∷ later_core
@@ -274,11 +274,11 @@ own_parameter = base ∷ (codes "struct V<V>", struct_line false (codes "V") (of
 
 -- A query may be in `core`.
 abbrev pub asked_in_core : List Said
-asked_in_core = (codes "prove in core u8: Clone", prove_line (codes "core") no_params (is u8 (bare (codes "Clone"))) []) ∷ []
+asked_in_core = (codes "prove in core u8: Clone", prove_line (codes "core") no_params (is u8 (bare (codes "Clone"))) [] []) ∷ []
 
 -- A trait at the position of a crate is fault 7.
 abbrev pub asked_in_trait : List Said
-asked_in_trait = base ∷ show ∷ (codes "prove in Show u8: Show", prove_line (codes "Show") no_params (is u8 (bare (codes "Show"))) []) ∷ []
+asked_in_trait = base ∷ show ∷ (codes "prove in Show u8: Show", prove_line (codes "Show") no_params (is u8 (bare (codes "Show"))) [] []) ∷ []
 
 -- A trait's own name in its bound is fault 9, which precedes fault 10. The same is true inside of a type.
 abbrev pub own_bound_of_auto : List Said
@@ -304,15 +304,40 @@ long_used = base ∷ show ∷ show_for (codes "impl Show for " ++ long_text) (pl
 abbrev pub variable_lifetime : List Said
 variable_lifetime =
     base ∷ show ∷ (codes "struct W<'a>", struct_line false (codes "W") (record { lifetimes = codes "a" ∷ []; types = []; consts = [] }) no_types)
-    ∷ (codes "prove in base W<?x>: Show", prove_line (codes "base") no_params (is (named (codes "W") (one (variable_type (codes "x")))) (bare (codes "Show"))) []) ∷ []
+    ∷ (codes "prove in base W<?x>: Show", prove_line (codes "base") no_params (is (named (codes "W") (one (variable_type (codes "x")))) (bare (codes "Show"))) [] []) ∷ []
 
 abbrev pub variable_twice : List Said
 variable_twice =
     base ∷ (codes "trait Conv<U, const N>", trait_line false false (codes "Conv") (record { lifetimes = []; types = codes "U" ∷ []; consts = codes "N" ∷ [] }) [])
     ∷ (
       codes "prove in base u8: Conv<?x, ?x>",
-      prove_line (codes "base") no_params (is u8 (record { trait = codes "Conv"; args = and_arg (type_arg (variable_type (codes "x"))) (and_arg (type_arg (variable_type (codes "x"))) no_args) })) [],
+      prove_line (codes "base") no_params (is u8 (record { trait = codes "Conv"; args = and_arg (type_arg (variable_type (codes "x"))) (and_arg (type_arg (variable_type (codes "x"))) no_args) })) [] [],
     ) ∷ []
+
+-- The kinds of a variable are compared over all bounds of a query.
+abbrev pub variable_apart : List Said
+variable_apart =
+    base ∷ (codes "trait Conv<U>", trait_line false false (codes "Conv") (of_types (codes "U" ∷ [])) [])
+    ∷ (codes "trait Len<const N>", trait_line false false (codes "Len") (record { lifetimes = []; types = []; consts = codes "N" ∷ [] }) [])
+    ∷ (
+      codes "refute in base u8: Conv<?x>, u8: Len<?x>",
+      refute_line (codes "base") no_params (is u8 (record { trait = codes "Conv"; args = one (variable_type (codes "x")) }))
+          (is u8 (record { trait = codes "Len"; args = one (variable_type (codes "x")) }) ∷ []),
+    ) ∷ []
+
+-- A query has this number of bounds, and one more.
+abbrev copied_text : ℕ → List ℕ → List ℕ
+copied_text zero text = []
+copied_text (suc n) text = text ++ copied_text n text
+
+abbrev copied_clause : ℕ → Clause → List Clause
+copied_clause zero k = []
+copied_clause (suc n) k = k ∷ copied_clause n k
+
+abbrev pub many_bounds : ℕ → List Said
+many_bounds n =
+    base ∷ show ∷ (codes "refute in base u8: Show" ++ copied_text n (codes ", u8: Show"), refute_line (codes "base") no_params (is u8 (bare (codes "Show"))) (copied_clause n (is u8 (bare (codes "Show")))))
+    ∷ []
 
 -- This number of `&` before the type. An omitted output adds no depth, so that 63 of them before `fn()` have depth 64.
 -- Neither does a const argument that is a name.
@@ -339,6 +364,10 @@ abbrev pub FinePoints : Type 0
 FinePoints =
     IsGood apart × IsFaulty own_parameter 2 4 × IsGood asked_in_core × IsFaulty asked_in_trait 3 7 × IsFaulty own_bound_of_auto 2 9 × IsFaulty own_name_inside 3 9
     × IsFaulty auto_for_parameter 3 11 × IsFaulty long_used 3 5 × IsFaulty variable_lifetime 4 7 × IsFaulty variable_twice 3 13
+    × IsFaulty variable_apart 4 13
+
+abbrev pub ManyBounds : Type 0
+ManyBounds = IsGood (many_bounds 63) × IsFaulty (many_bounds 64) 3 16
 
 abbrev pub Depths : Type 0
 Depths = IsGood (deep_fn 63) × IsFaulty (deep_fn 64) 3 16 × IsGood (deep_const 63) × IsFaulty (deep_const 64) 4 16
@@ -353,7 +382,7 @@ generic_impl =
       codes "impl<T> Show for V<T> where T: Show",
       impl_line (of_types (codes "T" ∷ [])) (is (named (codes "V") (one (plain_name (codes "T")))) (bare (codes "Show"))) (is (plain_name (codes "T")) (bare (codes "Show")) ∷ []),
     )
-    ∷ (codes "prove in base V<V<u8>>: Show", prove_line (codes "base") no_params (is (named (codes "V") (one (named (codes "V") (one u8)))) (bare (codes "Show"))) []) ∷ []
+    ∷ (codes "prove in base V<V<u8>>: Show", prove_line (codes "base") no_params (is (named (codes "V") (one (named (codes "V") (one u8)))) (bare (codes "Show"))) [] []) ∷ []
 
 abbrev pub GenericImpl : Type 0
 GenericImpl = Declares generic_impl (record {
@@ -371,6 +400,7 @@ GenericImpl = Declares generic_impl (record {
     asker = 1;
     params = [];
     asked = record { trait = 9; args = tree (adt 1) (tree (adt 1) (leaf (uint 0)) none) none };
+    further = [];
     clauses = [];
     variables = [];
   } ∷ [];
@@ -384,7 +414,7 @@ two_kinds =
     ∷ (codes "impl Conv<bool, 4> for u8", impl_line no_params (is u8 (record { trait = codes "Conv"; args = and_arg (type_arg (of_primitive bool)) (and_arg (number_arg 4) no_args) })) [])
     ∷ (
       codes "prove in base u8: Conv<?x, ?n>",
-      prove_line (codes "base") no_params (is u8 (record { trait = codes "Conv"; args = and_arg (type_arg (variable_type (codes "x"))) (and_arg (type_arg (variable_type (codes "n"))) no_args) })) [],
+      prove_line (codes "base") no_params (is u8 (record { trait = codes "Conv"; args = and_arg (type_arg (variable_type (codes "x"))) (and_arg (type_arg (variable_type (codes "n"))) no_args) })) [] [],
     ) ∷ []
 
 abbrev pub TwoKinds : Type 0
@@ -397,8 +427,38 @@ TwoKinds = Declares two_kinds (record {
     asker = 1;
     params = [];
     asked = record { trait = 9; args = tree (uint 0) none (tree (infer of_type 0) none (leaf (infer of_const 0))) };
+    further = [];
     clauses = [];
     variables = record { text = codes "x"; kind = of_type } ∷ record { text = codes "n"; kind = of_const } ∷ [];
+  } ∷ [];
+})
+
+-- Both bounds of the query have `?x`, which is one variable.
+abbrev conv : List ℕ → Bound
+conv x = record { trait = codes "Conv"; args = one (variable_type x) }
+
+abbrev pub two_bounds : List Said
+two_bounds =
+    base ∷ show ∷ (codes "trait Conv<U>", trait_line false false (codes "Conv") (of_types (codes "U" ∷ [])) [])
+    ∷ (
+      codes "prove in base u8: Conv<?x>, Box<?x>: Conv<?y> where u8: Show",
+      prove_line (codes "base") no_params (is u8 (conv (codes "x"))) (is (named (codes "Box") (one (variable_type (codes "x")))) (conv (codes "y")) ∷ [])
+          (is u8 (bare (codes "Show")) ∷ []),
+    ) ∷ []
+
+abbrev pub TwoBounds : Type 0
+TwoBounds = Declares two_bounds (record {
+  structs = [];
+  traits = record { name = 9; home = 1; is_fundamental = false; is_auto = false; bounds = [] } ∷ record { name = 10; home = 1; is_fundamental = false; is_auto = false; bounds = [] } ∷ [];
+  impls = [];
+  questions = record {
+    is_refute = false;
+    asker = 1;
+    params = [];
+    asked = record { trait = 10; args = tree (uint 0) none (leaf (infer of_type 0)) };
+    further = record { trait = 10; args = tree (adt 0) (leaf (infer of_type 0)) (leaf (infer of_type 1)) } ∷ [];
+    clauses = record { trait = 9; args = leaf (uint 0) } ∷ [];
+    variables = record { text = codes "x"; kind = of_type } ∷ record { text = codes "y"; kind = of_type } ∷ [];
   } ∷ [];
 })
 
@@ -544,6 +604,7 @@ asking = record {
   asker = 1;
   params = [];
   asked = record { trait = 9; args = none };
+  further = [];
   clauses = [];
   variables = record { text = codes "x"; kind = of_type } ∷ record { text = codes "y"; kind = of_type } ∷ record { text = codes "z"; kind = of_type } ∷ [];
 }

@@ -6,7 +6,7 @@
 //! examples, by the long definitions. The others prove that the two definitions agree.
 #![tactic(auto)]
 
-ghost use Rattle.text_language.specs.Worked.{EachFault, GenericImpl, TwoKinds, BoundLifetimes, CoreIsCore, CoreIsRead, Depths, EmptyText, FinePoints, OrphanHeader, Printed, SectionFaults, TwoSections, ValuesPrinted};
+ghost use Rattle.text_language.specs.Worked.{EachFault, GenericImpl, TwoKinds, TwoBounds, ManyBounds, BoundLifetimes, CoreIsCore, CoreIsRead, Depths, EmptyText, FinePoints, OrphanHeader, Printed, SectionFaults, TwoSections, ValuesPrinted};
 ghost use Rattle.text_language.specs.Agreement.{TextsSayWhatTheyGive, ValuesArePrintedAlike};
 
 /// A text for each fault that a line can have.
@@ -20,16 +20,19 @@ pub fn worked_sections()
     ensures declared { TwoSections }
 {}
 
-/// Texts with fine points: which names are in use, which fault has the smaller number, and how deep a type is.
+/// Texts with fine points: which names are in use, which fault has the smaller number, how deep a type is, and how many
+/// bounds a query has.
 pub fn worked_fine_points()
     ensures points { FinePoints }
     ensures depths { Depths }
+    ensures bounds { ManyBounds }
 {}
 
 /// What some texts declare and ask.
 pub fn worked_declarations()
     ensures generic_impl { GenericImpl }
     ensures two_kinds { TwoKinds }
+    ensures two_bounds { TwoBounds }
     ensures bound_lifetimes { BoundLifetimes }
     ensures orphan { OrphanHeader }
     ensures empty { EmptyText }

@@ -14,6 +14,10 @@ pub returns-clause-two_kinds : goal.returns-clause-two_kinds
 unfolding tokens_of
 returns-clause-two_kinds c = ((refl, (refl, (refl, (refl, tt)))), refl)
 
+pub returns-clause-two_bounds : goal.returns-clause-two_bounds
+unfolding tokens_of
+returns-clause-two_bounds c = ((refl, (refl, (refl, (refl, tt)))), refl)
+
 pub returns-clause-bound_lifetimes : goal.returns-clause-bound_lifetimes
 unfolding tokens_of
 returns-clause-bound_lifetimes c = ((refl, (refl, (refl, (refl, (refl, (refl, tt)))))), refl)

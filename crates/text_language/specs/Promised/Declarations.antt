@@ -4,7 +4,6 @@ use Rattle.std.specs.Option.{option_map, option_or}
 use Rattle.std.specs.Str.{bytes_eq}
 use Rattle.type_terms.specs.Promised.Label.{Sort, of_type, of_const, of_lifetime}
 use Rattle.type_terms.specs.Promised.Worlds.{World, Reference, CrateDecl, StructDecl, TraitDecl, ImplDecl, core}
-use Rattle.type_terms.specs.Promised.Rules.{asked}
 use Rattle.text_language.specs.Promised.Syntax.{Params}
 
 -- A crate, with its name in the text.
@@ -34,15 +33,16 @@ pub record Variable : Type 0 where
   pub text : List ℕ
   pub kind : Sort
 
--- A query. The line `prove in C R where E` asks whether R has a proof in crate C by the where-clauses E. The line
--- `refute in C R` asks whether R has no proof in any set of crates that C is linked with. In R, the parameters are
--- placeholders, and the variables are inference variables. Those of each kind are numbered from 0, in the order in
--- which they first occur.
+-- A query. The line `prove in C R, S where E` asks whether R and S have proofs in crate C by the where-clauses E, with
+-- the same values for their variables. The line `refute in C R, S` asks whether there are no such proofs in any set of
+-- crates that C is linked with. In R and S, the parameters are placeholders, and the variables are inference variables.
+-- Those of each kind are numbered from 0, in the order in which they first occur in the whole list.
 pub record Question : Type 0 where
   pub is_refute : Bool
   pub asker : ℕ
   pub params : List (List ℕ)
   pub asked : Reference
+  pub further : List Reference
   pub clauses : List Reference
   pub variables : List Variable
 

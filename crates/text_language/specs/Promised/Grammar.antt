@@ -134,8 +134,8 @@ clause_tests k = type_tests k.subject ++ literal ":" ++ bound_tests k.bound
 -- struct = ["fundamental"] "struct" name [params] ["(" type {"," type} ")"]
 -- trait  = ["fundamental"] ["auto"] "trait" name [params] [":" bound {"+" bound}]
 -- impl   = "impl" [params] bound "for" type ["where" clause {"," clause}]
--- prove  = "prove" "in" name [params] clause ["where" clause {"," clause}]
--- refute = "refute" "in" name [params] clause
+-- prove  = "prove" "in" name [params] clause {"," clause} ["where" clause {"," clause}]
+-- refute = "refute" "in" name [params] clause {"," clause}
 -- later  = "later" name
 -- supers = "supers" "in" name
 abbrev pub line_tests : Line → PieceTests
@@ -146,8 +146,9 @@ line_tests (trait_line f a n ps bs) = (if f then literal "fundamental" else []) 
     ++ params_tests ps ++ enclosed ":" "+" "" (map bound_tests bs)
 line_tests (impl_line ps h ks) =
     literal "impl" ++ params_tests ps ++ bound_tests h.bound ++ literal "for" ++ type_tests h.subject ++ enclosed "where" "," "" (map clause_tests ks)
-line_tests (prove_line c ps a ks) = literal "prove in" ++ name_with "" c ++ params_tests ps ++ clause_tests a ++ enclosed "where" "," "" (map clause_tests ks)
-line_tests (refute_line c ps a) = literal "refute in" ++ name_with "" c ++ params_tests ps ++ clause_tests a
+line_tests (prove_line c ps a bs ks) =
+    literal "prove in" ++ name_with "" c ++ params_tests ps ++ enclosed "" "," "" (map clause_tests (a ∷ bs)) ++ enclosed "where" "," "" (map clause_tests ks)
+line_tests (refute_line c ps a bs) = literal "refute in" ++ name_with "" c ++ params_tests ps ++ enclosed "" "," "" (map clause_tests (a ∷ bs))
 line_tests (later_line n) = literal "later" ++ name_with "" n
 line_tests (supers_line n) = literal "supers in" ++ name_with "" n
 

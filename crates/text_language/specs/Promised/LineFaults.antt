@@ -1,6 +1,6 @@
 -- The fault of a line that follows the grammar, with the declarations of the lines before it. It is the smallest number
 -- whose test is true.
-use Rattle.std.specs.Prelude.{ℕ, ◌+◌, ◌^◌, min, Bool, true, false, ◌||◌, ◌&&◌, not, List, [], ◌∷◌, ◌++◌, length, map, filter, find, fold, count_by, Option, is_some, nat_le, nat_lt, ◌==◌, if◌then◌else◌, codes}
+use Rattle.std.specs.Prelude.{ℕ, ◌+◌, ◌^◌, min, max, Bool, true, false, ◌||◌, ◌&&◌, not, List, [], ◌∷◌, ◌++◌, length, map, filter, find, fold, count_by, Option, is_some, nat_le, nat_lt, ◌==◌, if◌then◌else◌, codes}
 use Rattle.std.specs.List.{list_any, flat_map, reduce}
 use Rattle.std.specs.Option.{option_map_or}
 use Rattle.std.specs.Str.{bytes_eq}
@@ -24,7 +24,7 @@ use Rattle.text_language.specs.Promised.Mentions.{Mention, crate_mention, name_m
 --   10  an auto trait with parameters or bounds
 --   11  an impl of an auto trait whose self type is not a struct of the impl's crate
 --   12  an impl of a trait that has built-in rules alone
---   13  a variable that is not in the bound of a query, or that is of two kinds
+--   13  a variable that is not in the bounds of a query, or that is of two kinds
 --   14  parameters in `refute`
 --   15  a `dyn` without a bound, with two bounds that are not auto traits, with one that is not first, with a binder
 --       before an auto trait, or with a lifetime that is not last
@@ -55,7 +55,7 @@ item_faults d n = (3, d.in_section || nat_le (length d.crates) 1) ∷ (4, is_som
 -- - 4095 crates without `core`
 -- - 65535 impls of a section
 -- - 65536 queries
--- - 64 fields of a struct, 64 bounds of a trait, 64 where-clauses
+-- - 64 fields of a struct, 64 bounds of a trait or of a query, 64 where-clauses
 -- A section may precede all crates. For example, `later core` followed by `impl Clone for str`.
 abbrev pub faults_by_kind : Declarations → Line → List (ℕ × Bool)
 faults_by_kind d (crate_line n us) = (4, is_some (known d n)) ∷ (16, nat_lt 64 (length n) || nat_lt 4095 (length d.crates)) ∷ []
@@ -68,8 +68,8 @@ faults_by_kind d (impl_line ps h ks) =
     ∷ (11, is_auto_name d h.bound.trait && not (heads_own_struct d h.subject))
     ∷ (12, stands_for d h.bound.trait (λ k. elim k [ a_trait i _ _ _ ↦ list_any (λ t. t == i) built_in_traits | _ ↦ false ]))
     ∷ (16, nat_le 65535 (if d.in_section then last_later d else last_items d) || nat_lt 64 (length ks)) ∷ []
-faults_by_kind d (prove_line c ps a ks) = (16, nat_le 65536 (length d.questions) || nat_lt 64 (length ks)) ∷ []
-faults_by_kind d (refute_line c ps a) = (14, nat_lt 0 (length (kinds_of ps))) ∷ (16, nat_le 65536 (length d.questions)) ∷ []
+faults_by_kind d (prove_line c ps a bs ks) = (16, nat_le 65536 (length d.questions) || nat_lt 64 (max (length (a ∷ bs)) (length ks))) ∷ []
+faults_by_kind d (refute_line c ps a bs) = (14, nat_lt 0 (length (kinds_of ps))) ∷ (16, nat_le 65536 (length d.questions) || nat_lt 64 (length (a ∷ bs))) ∷ []
 faults_by_kind d _ = []
 
 -- ---- tests by what the line mentions: d also has the struct or trait of the line itself
@@ -87,8 +87,8 @@ is_unknown_name d l n = not (is_among n ((line_params l).types ++ (line_params l
 -- - of another item: its own crate
 -- Other lines mention only crates.
 abbrev pub is_out_of_sight : Declarations → Line → ℕ → Bool
-is_out_of_sight d (prove_line c ps a ks) h = option_map_or (λ k. not (sees (world_of d) k.item.name h)) (find (λ k. bytes_eq k.text c) d.crates) false
-is_out_of_sight d (refute_line c ps a) h = option_map_or (λ k. not (sees (world_of d) k.item.name h)) (find (λ k. bytes_eq k.text c) d.crates) false
+is_out_of_sight d (prove_line c ps a bs ks) h = option_map_or (λ k. not (sees (world_of d) k.item.name h)) (find (λ k. bytes_eq k.text c) d.crates) false
+is_out_of_sight d (refute_line c ps a bs) h = option_map_or (λ k. not (sees (world_of d) k.item.name h)) (find (λ k. bytes_eq k.text c) d.crates) false
 is_out_of_sight d l h = not (sees (world_of d) (impl_owner d) h)
 
 -- The name is declared in a crate that the line's crate does not see.

@@ -2,7 +2,7 @@
 -- the struct or trait that it declares itself. Since the line has no fault, each name is of the kind that its position
 -- needs, and has as many arguments as parameters. For a line with a fault the definitions mean nothing.
 use Rattle.std.specs.Prelude.{ℕ, suc, ◌-◌, Bool, true, false, ◌&&◌, if◌then◌else◌, nat_lt, List, [], ◌∷◌, ◌++◌, map, filter, length, position, Option, option_map, unwrap_or}
-use Rattle.std.specs.List.{position_or_len, fold, list_any}
+use Rattle.std.specs.List.{position_or_len, flat_map, fold, list_any}
 use Rattle.std.specs.Option.{option_map_or}
 use Rattle.std.specs.Str.{bytes_eq}
 use Rattle.type_terms.specs.Promised.Label.{Label, Sort, of_type, of_const, of_lifetime, never, array, slice, tuple, dynamic, static, adt, fn_ptr, auto_trait, value, ref, raw_pointer, principal, param, placeholder, infer, bound}
@@ -106,11 +106,11 @@ trait_added d f a n ps rs =
     let item : TraitDecl = record { name = length d.traits; home = last_crate d; is_fundamental = f; is_auto = a; bounds = rs } in
     record d { traits = d.traits ++ record { text = n; kinds = map (λ v. v.1) (named_params ps); item = item } ∷ [] }
 
--- The declarations with a query. Its parameters are placeholders. Its variables are those of its bound, each once, in
--- the order in which they first occur.
-abbrev pub question_added : Declarations → Bool → List ℕ → Params → Clause → List Clause → Declarations
-question_added d r c ps a ks =
-    let named : List (List ℕ × Sort) = variables_among (clause_mentions d a) in
+-- The declarations with a query for the bound a and the further bounds bs. Its parameters are placeholders. Its
+-- variables are those of all these bounds, each once, in the order in which they first occur.
+abbrev pub question_added : Declarations → Bool → List ℕ → Params → Clause → List Clause → List Clause → Declarations
+question_added d r c ps a bs ks =
+    let named : List (List ℕ × Sort) = variables_among (flat_map (clause_mentions d) (a ∷ bs)) in
     let vs : List Variable = fold (λ r v. if list_any (λ w. bytes_eq v.0 w.text) r then r else r ++ record { text = v.0; kind = v.1 } ∷ []) [] named in
     let term = clause_meaning d (own_param ps placeholder) vs in
     record d {
@@ -119,6 +119,7 @@ question_added d r c ps a ks =
         asker = (means d c).0;
         params = map (λ v. v.0) (named_params ps);
         asked = term a;
+        further = map term bs;
         clauses = map term ks;
         variables = vs;
       } ∷ [];
@@ -140,8 +141,8 @@ with_line d (impl_line ps h ks) =
     let of_number : ℕ → NamedImpl = λ i. record { params = named_params ps; item = item i } in
     if d.in_section then record d { later_impls = d.later_impls ++ record { section = length d.sections - 1; added = of_number (last_later d) } ∷ [] }
     else record d { impls = d.impls ++ of_number (length d.impls) ∷ [] }
-with_line d (prove_line c ps a ks) = question_added d false c ps a ks
-with_line d (refute_line c ps a) = question_added d true c ps a []
+with_line d (prove_line c ps a bs ks) = question_added d false c ps a bs ks
+with_line d (refute_line c ps a bs) = question_added d true c ps a bs []
 with_line d (later_line n) =
     let c = (means d n).0 in record d { sections = d.sections ++ c ∷ []; checks = d.checks ++ of_later (length d.sections) c ∷ []; in_section = true }
 with_line d (supers_line n) = record d { checks = d.checks ++ of_supers (means d n).0 ∷ [] }

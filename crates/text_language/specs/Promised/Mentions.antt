@@ -115,15 +115,15 @@ line_mentions d (crate_line n us) = map crate_mention us
 line_mentions d (struct_line f n ps fs) = flat_map (λ m. m) (types_mentions d [] 1 fs)
 line_mentions d (trait_line f a n ps bs) = flat_map (bound_mentions d) bs
 line_mentions d (impl_line ps h ks) = header_mentions d h ++ flat_map (clause_mentions d) ks
-line_mentions d (prove_line c ps a ks) = crate_mention c ∷ (clause_mentions d a ++ flat_map (clause_mentions d) ks)
-line_mentions d (refute_line c ps a) = crate_mention c ∷ clause_mentions d a
+line_mentions d (prove_line c ps a bs ks) = crate_mention c ∷ (flat_map (clause_mentions d) (a ∷ bs) ++ flat_map (clause_mentions d) ks)
+line_mentions d (refute_line c ps a bs) = crate_mention c ∷ flat_map (clause_mentions d) (a ∷ bs)
 line_mentions d (later_line n) = crate_mention n ∷ []
 line_mentions d (supers_line n) = crate_mention n ∷ []
 
--- What the bound of a query mentions. Other lines have none.
+-- What the bounds of a query mention. Other lines have none.
 abbrev pub asked_mentions : Declarations → Line → List Mention
-asked_mentions d (prove_line c ps a ks) = clause_mentions d a
-asked_mentions d (refute_line c ps a) = clause_mentions d a
+asked_mentions d (prove_line c ps a bs ks) = flat_map (clause_mentions d) (a ∷ bs)
+asked_mentions d (refute_line c ps a bs) = flat_map (clause_mentions d) (a ∷ bs)
 asked_mentions d _ = []
 
 -- The parameters that the line declares.
@@ -131,6 +131,6 @@ abbrev pub line_params : Line → Params
 line_params (struct_line f n ps fs) = ps
 line_params (trait_line f a n ps bs) = ps
 line_params (impl_line ps h ks) = ps
-line_params (prove_line c ps a ks) = ps
-line_params (refute_line c ps a) = ps
+line_params (prove_line c ps a bs ks) = ps
+line_params (refute_line c ps a bs) = ps
 line_params _ = record { lifetimes = []; types = []; consts = [] }

@@ -64,7 +64,7 @@ unknowns_within none = []
 unknowns_within (tree (infer s i) c o) = infer s i ∷ unknowns_within o
 unknowns_within (tree l c o) = unknowns_within c ++ unknowns_within o
 
--- The text after `prove K: yes`, with these values for the variables of the query: ` ?x = T, ?y = U`. A variable is
+-- The text after `prove K: yes` or `maybe`, with these values for the variables of the query: ` ?x = T, ?y = U`. A variable is
 -- omitted if its value is its own inference variable. In values, these inference variables have the names of their
 -- variables. Further ones are ?1, ?2 and so on, in the order in which they first occur in the line.
 abbrev pub yes_values_text : Declarations → Question → List Trees → List ℕ

@@ -1,7 +1,6 @@
 -- The syntax of lines, as data. The grammar gives exactly one way to write each.
 use Rattle.std.specs.Prelude.{ℕ, Bool, List, Option}
 use Rattle.type_terms.specs.Promised.Label.{Label}
-use Rattle.text_language.specs.Tokens.{name}
 
 -- ---- types
 
@@ -79,7 +78,8 @@ pub data Line : Type 0 where
   struct_line : (is_fundamental : Bool) (name : List ℕ) (params : Params) (fields : Types) → Line
   trait_line : (is_fundamental is_auto : Bool) (name : List ℕ) (params : Params) (bounds : List Bound) → Line
   impl_line : (params : Params) (header : Clause) (clauses : List Clause) → Line
-  prove_line : (asker : List ℕ) (params : Params) (asked : Clause) (clauses : List Clause) → Line
-  refute_line : (asker : List ℕ) (params : Params) (asked : Clause) → Line
+  -- A query asks a bound and further ones, which may share variables with it.
+  prove_line : (asker : List ℕ) (params : Params) (asked : Clause) (further clauses : List Clause) → Line
+  refute_line : (asker : List ℕ) (params : Params) (asked : Clause) (further : List Clause) → Line
   later_line : (changed : List ℕ) → Line
   supers_line : (asked : List ℕ) → Line
