@@ -11,7 +11,7 @@ use Rattle.text_language.specs.Syntax.{no_params, type_spelling, more_items, mor
 use Rattle.text_lines.specs.Follows.{IsCompleteType}
 use Rattle.text_lines.specs.TokenSteps.{NoAngle}
 use Rattle.text_lines.proofs.TypeAt.{◌>>=◌, type_at, bound_at, clause_at, type_again, bound_again, clause_again}
-use Rattle.text_lines.proofs.LineAt.{names_at, uses_at, Param, lifetime_param, type_param, const_param, param_spelling, param_list, param_first, more_params, consts_of, with_type, with_lifetime, with_consts, types_of, ordered, in_order, params_at, as_fields, fields_at, bound_first, items_bounds, as_bounds, bounds_at, clauses_at, more_clauses, where_at, after_for, if_end, struct_at, trait_at, impl_at, prove_at, refute_at, line_at}
+use Rattle.text_lines.proofs.LineAt.{names_at, uses_at, Param, lifetime_param, type_param, const_param, param_spelling, param_list, param_first, more_params, consts_of, with_type, with_lifetime, with_consts, types_of, ordered, in_order, params_at, as_fields, fields_at, bound_first, items_bounds, as_bounds, bounds_at, clauses_at, more_clauses, where_at, further_at, after_for, if_end, struct_at, trait_at, impl_at, prove_at, refute_at, line_at}
 
 -- ---- names
 names-again : (ns : List (List ℕ)) → names_at (more_names ns) ≡ Some ns
@@ -139,6 +139,33 @@ where-no-angle : (ks : List Clause) → NoAngle (where_spelling (map clause_spel
 where-no-angle [] = tt
 where-no-angle (k ∷ ks) = tt
 
+-- ---- the bounds of a query after the first
+abbrev NoComma : List Token → Type 0
+NoComma (sign comma ∷ ts) = ⊥
+NoComma _ = Unit {0}
+
+where-no-comma : (ks : List Clause) → NoComma (where_spelling (map clause_spelling ks))
+where-no-comma [] = tt
+where-no-comma (k ∷ ks) = tt
+
+further-no-angle : (bs : List Clause) (r : List Token) → NoAngle r → NoAngle (behind comma (map clause_spelling bs) ++ r)
+further-no-angle [] r h = h
+further-no-angle (b ∷ bs) r h = tt
+
+none-further : (n : ℕ) (r : List Token) → NoComma r → further_at (suc n) r ≡ Some ([], r)
+none-further n [] h = refl
+none-further n (sign comma ∷ ts) h = absurd h
+none-further n _ h = refl
+
+further-again : (n : ℕ) (bs : List Clause) (r : List Token) → length bs < n → NoAngle r → NoComma r → further_at n (behind comma (map clause_spelling bs) ++ r) ≡ Some (bs, r)
+further-again zero bs r h a c = let wrong : ⊥ = omega (arith, h) in absurd wrong
+further-again (suc n) [] r h a c = none-further n r c
+further-again (suc n) (b ∷ bs) r h a c =
+    let F : List Token = behind comma (map clause_spelling bs) in
+    ap (λ x. clause_at x >>= λ k. further_at n k.1 >>= λ ks. Some (k.0 ∷ ks.0, ks.1)) (append_assoc (clause_spelling b) F r)
+    ∙ ap (λ x. x >>= λ k. further_at n k.1 >>= λ ks. Some (k.0 ∷ ks.0, ks.1)) (clause_again b (F ++ r) (further-no-angle bs r a))
+    ∙ ap (λ x. x >>= λ ks. Some (b ∷ ks.0, ks.1)) (further-again n bs r (omega (arith, h)) a c)
+
 -- ---- a type begins with no `<`
 type-no-angle : (t : TypeTree) (r : List Token) → NoAngle (type_spelling t ++ r)
 type-no-angle (fn_of [] ts) r = tt
@@ -187,18 +214,27 @@ impl-again p h ks =
     ∙ ap (λ x. x >>= λ t. where_at t.1 >>= λ ys. Some (impl_line p (record { subject = t.0; bound = h.bound }) ys)) (type_again h.subject W (where-follows ks))
     ∙ ap (λ x. x >>= λ ys. Some (impl_line p h ys)) (where-again ks)
 
-prove-again : (c : List ℕ) (p : Params) (k : Clause) (ks : List Clause) → prove_at c (params_spelling p ++ (clause_spelling k ++ where_spelling (map clause_spelling ks))) ≡ Some (prove_line c p k ks)
-prove-again c p k ks =
-    let W = where_spelling (map clause_spelling ks) in
-    ap (λ x. x >>= λ q. clause_at q.1 >>= λ a. where_at a.1 >>= λ ys. Some (prove_line c q.0 a.0 ys)) (params-again p (clause_spelling k ++ W) (clause-no-angle k W))
-    ∙ ap (λ x. x >>= λ a. where_at a.1 >>= λ ys. Some (prove_line c p a.0 ys)) (clause_again k W (where-no-angle ks))
-    ∙ ap (λ x. x >>= λ ys. Some (prove_line c p k ys)) (where-again ks)
+prove-again : (c : List ℕ) (p : Params) (k : Clause) (bs ks : List Clause)
+    → prove_at c (params_spelling p ++ (clause_spelling k ++ (behind comma (map clause_spelling bs) ++ where_spelling (map clause_spelling ks)))) ≡ Some (prove_line c p k bs ks)
+prove-again c p k bs ks =
+    let W : List Token = where_spelling (map clause_spelling ks) in
+    let F : List Token = behind comma (map clause_spelling bs) ++ W in
+    let more = clauses-length bs in
+    let e : length F ≡ length (behind comma (map clause_spelling bs)) + length W = length-append (behind comma (map clause_spelling bs)) W in
+    ap (λ x. x >>= λ q. clause_at q.1 >>= λ a. further_at (suc (length a.1)) a.1 >>= λ xs. where_at xs.1 >>= λ ys. Some (prove_line c q.0 a.0 xs.0 ys)) (params-again p (clause_spelling k ++ F) (clause-no-angle k F))
+    ∙ ap (λ x. x >>= λ a. further_at (suc (length a.1)) a.1 >>= λ xs. where_at xs.1 >>= λ ys. Some (prove_line c p a.0 xs.0 ys)) (clause_again k F (further-no-angle bs W (where-no-angle ks)))
+    ∙ ap (λ x. x >>= λ xs. where_at xs.1 >>= λ ys. Some (prove_line c p k xs.0 ys)) (further-again (suc (length F)) bs W (omega (arith, more, e)) (where-no-angle ks) (where-no-comma ks))
+    ∙ ap (λ x. x >>= λ ys. Some (prove_line c p k bs ys)) (where-again ks)
 
-refute-again : (c : List ℕ) (p : Params) (k : Clause) → refute_at c (params_spelling p ++ clause_spelling k) ≡ Some (refute_line c p k)
-refute-again c p k =
-    ap (λ x. refute_at c (params_spelling p ++ x)) (sym (append-nil (clause_spelling k)))
-    ∙ ap (λ x. x >>= λ q. clause_at q.1 >>= λ a. if_end (refute_line c q.0 a.0) a.1) (params-again p (clause_spelling k ++ []) (clause-no-angle k []))
-    ∙ ap (λ x. x >>= λ a. if_end (refute_line c p a.0) a.1) (clause_again k [] tt)
+refute-again : (c : List ℕ) (p : Params) (k : Clause) (bs : List Clause) → refute_at c (params_spelling p ++ (clause_spelling k ++ behind comma (map clause_spelling bs))) ≡ Some (refute_line c p k bs)
+refute-again c p k bs =
+    let F : List Token = behind comma (map clause_spelling bs) ++ [] in
+    let more = clauses-length bs in
+    let e : length F ≡ length (behind comma (map clause_spelling bs)) = ap length (append-nil (behind comma (map clause_spelling bs))) in
+    ap (λ x. refute_at c (params_spelling p ++ (clause_spelling k ++ x))) (sym (append-nil (behind comma (map clause_spelling bs))))
+    ∙ ap (λ x. x >>= λ q. clause_at q.1 >>= λ a. further_at (suc (length a.1)) a.1 >>= λ xs. if_end (refute_line c q.0 a.0 xs.0) xs.1) (params-again p (clause_spelling k ++ F) (clause-no-angle k F))
+    ∙ ap (λ x. x >>= λ a. further_at (suc (length a.1)) a.1 >>= λ xs. if_end (refute_line c p a.0 xs.0) xs.1) (clause_again k F (further-no-angle bs [] tt))
+    ∙ ap (λ x. x >>= λ xs. if_end (refute_line c p k xs.0) xs.1) (further-again (suc (length F)) bs [] (omega (arith, more, e)) tt tt)
 
 pub line-again : (l : Line) → line_at (spelling l) ≡ Some l
 line-again (crate_line n us) = ap (option_map (crate_line n)) (uses-again us)
@@ -209,8 +245,8 @@ line-again (trait_line false true n p bs) = trait-again false true n p bs
 line-again (trait_line true false n p bs) = trait-again true false n p bs
 line-again (trait_line true true n p bs) = trait-again true true n p bs
 line-again (impl_line p h ks) = impl-again p h ks
-line-again (prove_line c p k ks) = prove-again c p k ks
-line-again (refute_line c p k) = refute-again c p k
+line-again (prove_line c p k bs ks) = prove-again c p k bs ks
+line-again (refute_line c p k bs) = refute-again c p k bs
 line-again (later_line n) = refl
 line-again (supers_line n) = refl
 

@@ -119,6 +119,12 @@ where_at [] = Some []
 where_at (keyword where_word ∷ ts) = clauses_at (length ts) ts
 where_at _ = None
 
+-- ---- the bounds of a query after the first; n is more than there are
+abbrev pub further_at : ℕ → List Token → Option (List Clause × List Token)
+further_at zero ts = None
+further_at (suc n) (sign comma ∷ ts) = clause_at ts >>= λ k. further_at n k.1 >>= λ ks. Some (k.0 ∷ ks.0, ks.1)
+further_at (suc n) ts = Some ([], ts)
+
 -- ---- lines
 abbrev pub after_for : List Token → Option (List Token)
 after_for (keyword for_word ∷ ts) = Some ts
@@ -146,10 +152,11 @@ impl_at ts =
     >>= λ ks. Some (impl_line p.0 (record { subject = t.0; bound = b.0 }) ks)
 
 abbrev pub prove_at : List ℕ → List Token → Option Line
-prove_at c ts = params_at ts >>= λ p. clause_at p.1 >>= λ k. where_at k.1 >>= λ ks. Some (prove_line c p.0 k.0 ks)
+prove_at c ts =
+    params_at ts >>= λ p. clause_at p.1 >>= λ k. further_at (suc (length k.1)) k.1 >>= λ bs. where_at bs.1 >>= λ ks. Some (prove_line c p.0 k.0 bs.0 ks)
 
 abbrev pub refute_at : List ℕ → List Token → Option Line
-refute_at c ts = params_at ts >>= λ p. clause_at p.1 >>= λ k. if_end (refute_line c p.0 k.0) k.1
+refute_at c ts = params_at ts >>= λ p. clause_at p.1 >>= λ k. further_at (suc (length k.1)) k.1 >>= λ bs. if_end (refute_line c p.0 k.0 bs.0) bs.1
 
 abbrev pub line_at : List Token → Option Line
 line_at (keyword crate_word ∷ name n ∷ ts) = option_map (crate_line n) (uses_at ts)

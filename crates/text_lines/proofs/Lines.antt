@@ -23,7 +23,7 @@ use Rattle.text_lines.proofs.IsPart.{Found, IsPart, Any, bind-some, if-some, spe
 use Rattle.text_lines.proofs.EachMark.{in-mark}
 use Rattle.text_lines.proofs.Types.{no_cells, name_spelling, name-part, header_spelling, header-part, clause-part, clause-no-angle}
 use Rattle.text_lines.proofs.ParamOrder.{NotAngle, params-part}
-use Rattle.text_lines.proofs.Lists.{IsEnd, at-end, uses-part, fields_onto, fields_spans, fields-part, supers_spelling, bounds-part, clauses_spelling, where-part}
+use Rattle.text_lines.proofs.Lists.{IsEnd, at-end, uses-part, fields_onto, fields_spans, fields-part, supers_spelling, bounds-part, further_spelling, EndsClauses, further-part, clauses_spelling, where-part}
 
 -- ---- what stands behind what
 fields-fit : (ts : Types) (r : List Token) → IsEnd r → NotAngle (fields_spelling ts ++ r)
@@ -41,15 +41,26 @@ clauses-fit (k ∷ ks) r h = tt
 header-fits : (x : Clause × List Clause) (r : List Token) → IsEnd r → NotAngle (spell_both header_spelling clauses_spelling x ++ r)
 header-fits x r h = refl
 
-clause-fits : (k : Clause) (r : List Token) → NoAngle r → NotAngle (clause_spelling k ++ r)
-clause-fits k r h = clause-no-angle k r
+refuted-fits : (x : Clause × List Clause) (r : List Token) → EndsClauses r → NotAngle (spell_both clause_spelling further_spelling x ++ r)
+refuted-fits x r h = ap after_open_angle (append_assoc (clause_spelling x.0) (further_spelling x.1) r) ∙ clause-no-angle x.0 (further_spelling x.1 ++ r)
 
-asked-fits : (x : Clause × List Clause) (r : List Token) → IsEnd r → NotAngle (spell_both clause_spelling clauses_spelling x ++ r)
-asked-fits x r h = ap after_open_angle (append_assoc (clause_spelling x.0) (clauses_spelling x.1) r) ∙ clause-no-angle x.0 (clauses_spelling x.1 ++ r)
+further-behind : (bs : List Clause) (r : List Token) → EndsClauses r → NoAngle (further_spelling bs ++ r)
+further-behind [] r h = h.0
+further-behind (b ∷ bs) r h = tt
 
-clauses-behind : (ks : List Clause) (r : List Token) → IsEnd r → NoAngle (clauses_spelling ks ++ r)
-clauses-behind [] r h = at-end NoAngle tt r h
-clauses-behind (k ∷ ks) r h = tt
+abbrev two_lists : List Clause × List Clause → List Token
+two_lists = spell_both further_spelling clauses_spelling
+
+asked-fits : (x : Clause × (List Clause × List Clause)) (r : List Token) → IsEnd r → NotAngle (spell_both clause_spelling two_lists x ++ r)
+asked-fits x r h = ap after_open_angle (append_assoc (clause_spelling x.0) (two_lists x.1) r) ∙ clause-no-angle x.0 (two_lists x.1 ++ r)
+
+clauses-behind : (ks : List Clause) (r : List Token) → IsEnd r → EndsClauses (clauses_spelling ks ++ r)
+clauses-behind [] r h = at-end EndsClauses (tt, refl) r h
+clauses-behind (k ∷ ks) r h = (tt, refl)
+
+lists-behind : (x : List Clause × List Clause) (r : List Token) → IsEnd r → NoAngle (two_lists x ++ r)
+lists-behind ([], ks) r h = (clauses-behind ks r h).0
+lists-behind (b ∷ bs, ks) r h = tt
 
 -- ---- each kind of line, behind its words
 crate-part : IsPart crate_at (spell_both name_spelling uses_spelling) (onto_both no_cells no_cells) (λ t c. crate_statement t.0 t.1) IsEnd
@@ -77,23 +88,30 @@ impl-part : IsPart impl_at impl_spelling (λ t c. all_onto clause_onto t.1.1 (he
 unfolding impl_at
 impl-part = given-part (λ x. impl_statement x.0 x.1.0 x.1.1) (both-part params-part (both-part header-part where-part clauses-fit) header-fits)
 
-abbrev asked_spelling : List ℕ × (Params × (Clause × List Clause)) → List Token
-asked_spelling = spell_both name_spelling (spell_both params_spelling (spell_both clause_spelling clauses_spelling))
+abbrev asked_spelling : List ℕ × (Params × (Clause × (List Clause × List Clause))) → List Token
+asked_spelling = spell_both name_spelling (spell_both params_spelling (spell_both clause_spelling two_lists))
 
-prove-part : IsPart prove_at (λ t. keyword in_word ∷ asked_spelling t) (λ t c. all_onto clause_onto t.1.1.1 (clause_onto t.1.1.0 c)) (λ t c. prove_statement t.0 (param_list t.1.0) (clause_spans t.1.1.0 c) (all_spans clause_onto clause_spans t.1.1.1 (clause_onto t.1.1.0 c))) IsEnd
+-- the cells of the bounds of a query
+abbrev asked_onto : Clause → List Clause → List Cell → List Cell
+asked_onto k bs c = all_onto clause_onto bs (clause_onto k c)
+
+prove-part : IsPart prove_at (λ t. keyword in_word ∷ asked_spelling t) (λ t c. all_onto clause_onto t.1.1.1.1 (asked_onto t.1.1.0 t.1.1.1.0 c))
+    (λ t c. prove_statement t.0 (param_list t.1.0) (clause_spans t.1.1.0 c) (all_spans clause_onto clause_spans t.1.1.1.0 (clause_onto t.1.1.0 c))
+    (all_spans clause_onto clause_spans t.1.1.1.1 (asked_onto t.1.1.0 t.1.1.1.0 c))) IsEnd
 unfolding prove_at
 prove-part =
-    given-part (λ x. prove_statement x.0 x.1.0 x.1.1.0 x.1.1.1)
-    (behind-part in-mark (both-part name-part (both-part params-part (both-part clause-part where-part clauses-behind) asked-fits) (λ u ts h. tt)))
+    given-part (λ x. prove_statement x.0 x.1.0 x.1.1.0 x.1.1.1.0 x.1.1.1.1)
+    (behind-part in-mark (both-part name-part (both-part params-part (both-part clause-part (both-part further-part where-part clauses-behind) lists-behind) asked-fits) (λ u ts h. tt)))
 
-abbrev refuted_spelling : List ℕ × (Params × Clause) → List Token
-refuted_spelling = spell_both name_spelling (spell_both params_spelling clause_spelling)
+abbrev refuted_spelling : List ℕ × (Params × (Clause × List Clause)) → List Token
+refuted_spelling = spell_both name_spelling (spell_both params_spelling (spell_both clause_spelling further_spelling))
 
-refute-part : IsPart refute_at (λ t. keyword in_word ∷ refuted_spelling t) (λ t c. clause_onto t.1.1 c) (λ t c. refute_statement t.0 (param_list t.1.0) (clause_spans t.1.1 c)) NoAngle
+refute-part : IsPart refute_at (λ t. keyword in_word ∷ refuted_spelling t) (λ t c. asked_onto t.1.1.0 t.1.1.1 c)
+    (λ t c. refute_statement t.0 (param_list t.1.0) (clause_spans t.1.1.0 c) (all_spans clause_onto clause_spans t.1.1.1 (clause_onto t.1.1.0 c))) EndsClauses
 unfolding refute_at
 refute-part =
-    given-part (λ x. refute_statement x.0 x.1.0 x.1.1)
-    (behind-part in-mark (both-part name-part (both-part params-part clause-part clause-fits) (λ u ts h. tt)))
+    given-part (λ x. refute_statement x.0 x.1.0 x.1.1.0 x.1.1.1)
+    (behind-part in-mark (both-part name-part (both-part params-part (both-part clause-part further-part further-behind) refuted-fits) (λ u ts h. tt)))
 
 later-part : IsPart later_at name_spelling no_cells (λ t c. later_statement t) Any
 unfolding later_at
@@ -164,12 +182,12 @@ impl-takes ts q y e =
 prove-takes : (ts : List Token) (q : Progress) (y : Statement) → prove_at ([], ts) ≡ Some (y, q) → LineFound (keyword prove_word ∷ ts) q y
 prove-takes ts q y e =
     let n = prove-part.takes ([], ts) q y e in
-    record { tree = prove_line n.tree.0 n.tree.1.0 n.tree.1.1.0 n.tree.1.1.1; tokens = ap (λ x. keyword prove_word ∷ x) n.tokens; placed = n.placed; cells = n.cells }
+    record { tree = prove_line n.tree.0 n.tree.1.0 n.tree.1.1.0 n.tree.1.1.1.0 n.tree.1.1.1.1; tokens = ap (λ x. keyword prove_word ∷ x) n.tokens; placed = n.placed; cells = n.cells }
 
 refute-takes : (ts : List Token) (q : Progress) (y : Statement) → refute_at ([], ts) ≡ Some (y, q) → LineFound (keyword refute_word ∷ ts) q y
 refute-takes ts q y e =
     let n = refute-part.takes ([], ts) q y e in
-    record { tree = refute_line n.tree.0 n.tree.1.0 n.tree.1.1; tokens = ap (λ x. keyword refute_word ∷ x) n.tokens; placed = n.placed; cells = n.cells }
+    record { tree = refute_line n.tree.0 n.tree.1.0 n.tree.1.1.0 n.tree.1.1.1; tokens = ap (λ x. keyword refute_word ∷ x) n.tokens; placed = n.placed; cells = n.cells }
 
 later-takes : (ts : List Token) (q : Progress) (y : Statement) → later_at ([], ts) ≡ Some (y, q) → LineFound (keyword later_word ∷ ts) q y
 later-takes ts q y e =
@@ -219,8 +237,8 @@ front-again (trait_line true true n ps bs) = (trait-part true true).again [] (n,
 front-again (impl_line ps h ks) =
     ap (λ x. impl_at ([], (params_spelling ps ++ x) ++ [])) (sym (append_assoc (bound_spelling h.bound) (keyword for_word ∷ type_spelling h.subject) (clauses_spelling ks)))
     ∙ impl-part.again [] (ps, (h, ks)) [] tt
-front-again (prove_line c ps k ks) = prove-part.again [] (c, (ps, (k, ks))) [] tt
-front-again (refute_line c ps k) = refute-part.again [] (c, (ps, k)) [] tt
+front-again (prove_line c ps k bs ks) = prove-part.again [] (c, (ps, (k, (bs, ks)))) [] tt
+front-again (refute_line c ps k bs) = refute-part.again [] (c, (ps, (k, bs))) [] (tt, refl)
 front-again (later_line n) = later-part.again [] n [] tt
 front-again (supers_line n) = supers-part.again [] n [] tt
 

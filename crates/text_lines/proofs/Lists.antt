@@ -10,7 +10,7 @@ use Rattle.text_lines.specs.TokenSteps.{NoAngle}
 use Rattle.text_lines.specs.Cells.{Cell, type_onto}
 use Rattle.text_lines.specs.Follows.{IsCompleteType}
 use Rattle.text_lines.specs.Statement.{type_span, bound_onto, bound_span, clause_onto, clause_spans, all_onto, all_spans, type_list}
-use Rattle.text_lines.specs.Parts.{uses_at, fields_at, bounds_at, where_at}
+use Rattle.text_lines.specs.Parts.{uses_at, fields_at, bounds_at, further_at, where_at}
 use Rattle.text_lines.specs.declared.statement.Span.{Span}
 use Rattle.text_lines.proofs.IsPart.{IsPart, recast, before-part, spell_list, list-part, spell_optional, optional-part}
 use Rattle.text_lines.proofs.EachMark.{comma-mark, plus-mark, colon-mark, open_round-mark, close_round-mark, uses-mark, where-mark}
@@ -104,6 +104,25 @@ bounds-part =
     recast (λ (bs : List Bound). bs) (λ bs. bs)
     (optional-part {E = IsEnd} colon-mark (list-part {D = IsEnd} bound-part plus-mark (λ r. tt) (at-end NoAngle tt) (at-end (λ r. after_plus r ≡ None) refl)) (λ r h. h) (at-end (λ r. after_colon r ≡ None) refl))
     supers-spelled (λ bs c. refl) (λ bs c. refl) (λ bs. refl)
+
+-- ---- the bounds of a query after the first
+abbrev pub further_spelling : List Clause → List Token
+further_spelling bs = behind comma (map clause_spelling bs)
+
+further-spelled : (bs : List Clause) → spell_optional (sign comma) (spell_list clause_spelling comma) bs ≡ further_spelling bs
+further-spelled [] = refl
+further-spelled (b ∷ bs) = refl
+
+-- neither arguments nor another clause
+abbrev pub EndsClauses : List Token → Type 0
+EndsClauses r = NoAngle r × (after_comma r ≡ None)
+
+pub further-part : IsPart further_at further_spelling (all_onto clause_onto) (all_spans clause_onto clause_spans) EndsClauses
+unfolding further_at
+further-part =
+    recast (λ (bs : List Clause). bs) (λ bs. bs)
+    (optional-part {E = EndsClauses} comma-mark (list-part {D = EndsClauses} clause-part comma-mark (λ r. tt) (λ r h. h.0) (λ r h. h.1)) (λ r h. h) (λ r h. h.1))
+    further-spelled (λ bs c. refl) (λ bs c. refl) (λ bs. refl)
 
 -- ---- where-clauses
 clauses-spelled : (ks : List Clause) → spell_optional (keyword where_word) (spell_list clause_spelling comma) ks ≡ where_spelling (map clause_spelling ks)

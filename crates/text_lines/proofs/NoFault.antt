@@ -76,10 +76,10 @@ uses-crates d (crate_line n us) e = all-crates d (crate_line n us) us (passes-te
 uses-crates d (struct_line f n ps fs) e = tt
 uses-crates d (trait_line f a n ps bs) e = tt
 uses-crates d (impl_line ps h ks) e = tt
-uses-crates d (prove_line c ps a ks) e = not-false (names_crate d c) (or-first (not (names_crate d c)) _ (passes-tests d (prove_line c ps a ks) e).has_fitting_sorts)
+uses-crates d (prove_line c ps a bs ks) e = not-false (names_crate d c) (or-first (not (names_crate d c)) _ (passes-tests d (prove_line c ps a bs ks) e).has_fitting_sorts)
 uses-crates d (later_line n) e = not-false (names_crate d n) (or-first (not (names_crate d n)) _ (passes-tests d (later_line n) e).has_fitting_sorts)
 uses-crates d (supers_line n) e = not-false (names_crate d n) (or-first (not (names_crate d n)) _ (passes-tests d (supers_line n) e).has_fitting_sorts)
-uses-crates d (refute_line c ps a) e = not-false (names_crate d c) (or-first (not (names_crate d c)) _ (passes-tests d (refute_line c ps a) e).has_fitting_sorts)
+uses-crates d (refute_line c ps a bs) e = not-false (names_crate d c) (or-first (not (names_crate d c)) _ (passes-tests d (refute_line c ps a bs) e).has_fitting_sorts)
 
 pub belongs-to-crate : (d : Declarations) (l : Line) → fault_of d l ≡ None → belongs_to_crate l ≡ true → (d.in_section ≡ false → 1 < length d.crates) × (d.in_section ≡ true → is_impl l ≡ true)
 belongs-to-crate d l e h = (

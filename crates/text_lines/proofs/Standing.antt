@@ -138,5 +138,8 @@ spans-stand (trait_line f a n ps bs) =
     let cells = all_onto bound_onto bs [] in
     each-stands bound_onto bound_span (BoundStands cells) cells bound-extends (λ b c e. bound-stands b c cells e) bs [] (same cells)
 spans-stand (impl_line ps h ks) = (header-stands h [] (all_onto clause_onto ks (header_onto h [])) (all-extend clause_onto clause-extends ks (header_onto h [])), clauses-stand ks (header_onto h []))
-spans-stand (prove_line c ps k ks) = (clause-stands k [] (all_onto clause_onto ks (clause_onto k [])) (all-extend clause_onto clause-extends ks (clause_onto k [])), clauses-stand ks (clause_onto k []))
-spans-stand (refute_line c ps k) = clause-stands k [] (clause_onto k []) (same (clause_onto k []))
+spans-stand (prove_line c ps k bs ks) =
+    let o : List Cell = all_onto clause_onto (k ∷ bs) [] in
+    let cells : List Cell = all_onto clause_onto ks o in
+    (each-stands clause_onto clause_spans (ClauseStands cells) cells clause-extends (λ j c e. clause-stands j c cells e) (k ∷ bs) [] (all-extend clause_onto clause-extends ks o), clauses-stand ks o)
+spans-stand (refute_line c ps k bs) = clauses-stand (k ∷ bs) []

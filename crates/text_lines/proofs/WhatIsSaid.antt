@@ -1,5 +1,5 @@
 -- What a statement says without its types is what its line says.
-use Rattle.std.proofs.Common.{◌≡◌, ℕ, List, [], ◌∷◌, ◌++◌, length, refl, sym, ap, ◌∙◌, arith}
+use Rattle.std.proofs.Common.{◌≡◌, ℕ, suc, max, List, [], ◌∷◌, ◌++◌, length, refl, sym, ap, ◌∙◌, arith}
 use Rattle.std.specs.Prelude.{map, ◌||◌, ◌&&◌, not, ◌==◌}
 use Rattle.std.specs.List.{list_any}
 use Rattle.std.proofs.lemmas.List.{length-append, length-map}
@@ -9,7 +9,7 @@ use Rattle.text_language.specs.Promised.Declarations.{kinds_of, names_of}
 use Rattle.text_language.specs.Uses.{types_count}
 use Rattle.text_language.specs.Faults.{is_long}
 use Rattle.text_lines.specs.Cells.{Cell, type_onto}
-use Rattle.text_lines.specs.Statement.{lifetime_param, type_param, const_param, param_name, param_list, bound_onto, bound_span, clause_onto, clause_spans, header_onto, type_span, all_spans, type_list}
+use Rattle.text_lines.specs.Statement.{lifetime_param, type_param, const_param, param_name, param_list, bound_onto, bound_span, clause_onto, clause_spans, header_onto, type_span, all_onto, all_spans, type_list}
 use Rattle.text_lines.specs.Says.{NameIsSaid, ParamsAreSaid, ParamsAreCounted, PartsAreCounted, TestsAgree}
 use Rattle.type_terms.proofs.ListBasics.{any-mapped as any-map}
 
@@ -18,8 +18,8 @@ name-is-said (crate_line n us) = refl
 name-is-said (struct_line f n ps ts) = refl
 name-is-said (trait_line f a n ps bs) = refl
 name-is-said (impl_line ps h ks) = refl
-name-is-said (prove_line c ps k ks) = refl
-name-is-said (refute_line c ps k) = refl
+name-is-said (prove_line c ps k bs ks) = refl
+name-is-said (refute_line c ps k bs) = refl
 name-is-said (later_line n) = refl
 name-is-said (supers_line n) = refl
 
@@ -28,8 +28,8 @@ params-are-said (crate_line n us) = refl
 params-are-said (struct_line f n ps ts) = refl
 params-are-said (trait_line f a n ps bs) = refl
 params-are-said (impl_line ps h ks) = refl
-params-are-said (prove_line c ps k ks) = refl
-params-are-said (refute_line c ps k) = refl
+params-are-said (prove_line c ps k bs ks) = refl
+params-are-said (refute_line c ps k bs) = refl
 params-are-said (later_line n) = refl
 params-are-said (supers_line n) = refl
 
@@ -59,8 +59,8 @@ params-are-counted (crate_line n us) = refl
 params-are-counted (struct_line f n ps ts) = count-is ps
 params-are-counted (trait_line f a n ps bs) = count-is ps
 params-are-counted (impl_line ps h ks) = count-is ps
-params-are-counted (prove_line c ps k ks) = count-is ps
-params-are-counted (refute_line c ps k) = count-is ps
+params-are-counted (prove_line c ps k bs ks) = count-is ps
+params-are-counted (refute_line c ps k bs) = count-is ps
 params-are-counted (later_line n) = refl
 params-are-counted (supers_line n) = refl
 
@@ -77,8 +77,10 @@ parts-are-counted (crate_line n us) = refl
 parts-are-counted (struct_line f n ps ts) = spans-length type_onto type_span (type_list ts) [] ∙ types-length ts
 parts-are-counted (trait_line f a n ps bs) = spans-length bound_onto bound_span bs []
 parts-are-counted (impl_line ps h ks) = spans-length clause_onto clause_spans ks (header_onto h [])
-parts-are-counted (prove_line c ps k ks) = spans-length clause_onto clause_spans ks (clause_onto k [])
-parts-are-counted (refute_line c ps k) = refl
+parts-are-counted (prove_line c ps k bs ks) =
+    ap (λ n. max (suc n) (length (all_spans clause_onto clause_spans ks (all_onto clause_onto (k ∷ bs) [])))) (spans-length clause_onto clause_spans bs (clause_onto k []))
+    ∙ ap (max (suc (length bs))) (spans-length clause_onto clause_spans ks (all_onto clause_onto (k ∷ bs) []))
+parts-are-counted (refute_line c ps k bs) = ap suc (spans-length clause_onto clause_spans bs (clause_onto k []))
 parts-are-counted (later_line n) = refl
 parts-are-counted (supers_line n) = refl
 
@@ -101,5 +103,5 @@ tests-agree (struct_line f n ps ts) = (refl, refl, refl, refl, ap (λ x. is_long
 tests-agree (trait_line f a n ps bs) =
     (refl, refl, ap (λ x. a && not ((x == 0) && (length (all_spans bound_onto bound_span bs []) == 0))) (count-is ps) ∙ ap (λ x. a && not ((length (kinds_of ps) == 0) && (x == 0))) (spans-length bound_onto bound_span bs []), refl, ap (λ x. is_long n || x) (long-is ps))
 tests-agree (impl_line ps h ks) = (refl, refl, refl, refl, long-is ps)
-tests-agree (prove_line c ps k ks) = (refl, refl, refl, refl, long-is ps)
-tests-agree (refute_line c ps k) = (refl, refl, refl, ap (λ x. not (x == 0)) (count-is ps), long-is ps)
+tests-agree (prove_line c ps k bs ks) = (refl, refl, refl, refl, long-is ps)
+tests-agree (refute_line c ps k bs) = (refl, refl, refl, ap (λ x. not (x == 0)) (count-is ps), long-is ps)

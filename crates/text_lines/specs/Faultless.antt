@@ -40,8 +40,8 @@ names_crate d n = option_map_or is_crate (known d n) false
 -- each name of a crate is that of a declared crate
 abbrev pub NamesCrates : Declarations → Line → Type 0
 NamesCrates d (crate_line n us) = list_all (names_crate d) us ≡ true
-NamesCrates d (prove_line c ps a ks) = names_crate d c ≡ true
-NamesCrates d (refute_line c ps a) = names_crate d c ≡ true
+NamesCrates d (prove_line c ps a bs ks) = names_crate d c ≡ true
+NamesCrates d (refute_line c ps a bs) = names_crate d c ≡ true
 NamesCrates d (later_line n) = names_crate d n ≡ true
 NamesCrates d (supers_line n) = names_crate d n ≡ true
 NamesCrates d _ = Unit {0}

@@ -27,7 +27,7 @@ AllUnwritten (b ∷ bs) = IsUnwritten b × AllUnwritten bs
 abbrev pub cut_off : List (List ℕ)
 cut_off =
     codes "crate" ∷ codes "crate b uses" ∷ codes "struct" ∷ codes "impl Show for" ∷ codes "impl Show for &'static" ∷ codes "impl Show for fn(u8" ∷ codes "impl Show for dyn"
-    ∷ codes "prove in base u8" ∷ codes "trait Show:" ∷ codes "impl Show for u8 where" ∷ []
+    ∷ codes "prove in base u8" ∷ codes "refute in base u8: Show," ∷ codes "trait Show:" ∷ codes "impl Show for u8 where" ∷ []
 
 abbrev pub bracketed : List (List ℕ)
 bracketed = codes "struct V()" ∷ codes "struct V<>" ∷ codes "impl Show for (u8)" ∷ codes "impl Show for [u8; ]" ∷ codes "impl Show for for<> fn()" ∷ []

@@ -28,8 +28,8 @@ line_parts (crate_line n us) = []
 line_parts (struct_line f n ps fs) = map type_part (type_list fs)
 line_parts (trait_line f a n ps bs) = map bound_part bs
 line_parts (impl_line ps h ks) = header_parts h ++ flat_map clause_parts ks
-line_parts (prove_line c ps k ks) = clause_parts k ++ flat_map clause_parts ks
-line_parts (refute_line c ps k) = clause_parts k
+line_parts (prove_line c ps k bs ks) = flat_map clause_parts (k ∷ bs) ++ flat_map clause_parts ks
+line_parts (refute_line c ps k bs) = flat_map clause_parts (k ∷ bs)
 line_parts (later_line n) = []
 line_parts (supers_line n) = []
 
@@ -48,8 +48,8 @@ places_in (crate_statement n us) = []
 places_in (struct_statement f n ps ss) = map type_place ss
 places_in (trait_statement f a n ps ss) = map bound_place ss
 places_in (impl_statement ps h ks) = bound_place h.bound ∷ type_place h.subject ∷ flat_map clause_places ks
-places_in (prove_statement c ps k ks) = type_place k.subject ∷ bound_place k.bound ∷ flat_map clause_places ks
-places_in (refute_statement c ps k) = type_place k.subject ∷ bound_place k.bound ∷ []
+places_in (prove_statement c ps k js ks) = flat_map clause_places (k ∷ js) ++ flat_map clause_places ks
+places_in (refute_statement c ps k js) = flat_map clause_places (k ∷ js)
 places_in (later_statement n) = []
 places_in (supers_statement n) = []
 
@@ -74,16 +74,16 @@ part_depth d (bound_part b) = bound_depth d b
 -- the crates that it names
 abbrev pub named_crates : Line → List (List ℕ)
 named_crates (crate_line n us) = us
-named_crates (prove_line c ps k ks) = c ∷ []
-named_crates (refute_line c ps k) = c ∷ []
+named_crates (prove_line c ps k bs ks) = c ∷ []
+named_crates (refute_line c ps k bs) = c ∷ []
 named_crates (later_line n) = n ∷ []
 named_crates (supers_line n) = n ∷ []
 named_crates l = []
 
--- the queried trait reference
+-- the queried trait references
 abbrev pub asked_parts : Line → List LinePart
-asked_parts (prove_line c ps k ks) = clause_parts k
-asked_parts (refute_line c ps k) = clause_parts k
+asked_parts (prove_line c ps k bs ks) = flat_map clause_parts (k ∷ bs)
+asked_parts (refute_line c ps k bs) = flat_map clause_parts (k ∷ bs)
 asked_parts l = []
 
 -- A line uses the crates that it names and the names in its parts.

@@ -115,6 +115,10 @@ fields_at p = optional after_open_round (before_mark (parts_between type_at afte
 unfoldable pub bounds_at : Part (List Span)
 bounds_at p = optional after_colon (parts_between bound_at after_plus) p
 
+-- the bounds of a query after the first
+unfoldable pub further_at : Part (List ClauseSpans)
+further_at p = optional after_comma (parts_between clause_at after_comma) p
+
 unfoldable pub where_at : Part (List ClauseSpans)
 where_at p = optional after_where (parts_between clause_at after_comma) p
 
@@ -132,10 +136,10 @@ unfoldable pub impl_at : Part Statement
 impl_at p = given (λ x. impl_statement x.0 x.1.0 x.1.1) (both params_at (both header_at where_at)) p
 
 unfoldable pub prove_at : Part Statement
-prove_at p = given (λ x. prove_statement x.0 x.1.0 x.1.1.0 x.1.1.1) (behind_mark after_in (both name_at (both params_at (both clause_at where_at)))) p
+prove_at p = given (λ x. prove_statement x.0 x.1.0 x.1.1.0 x.1.1.1.0 x.1.1.1.1) (behind_mark after_in (both name_at (both params_at (both clause_at (both further_at where_at))))) p
 
 unfoldable pub refute_at : Part Statement
-refute_at p = given (λ x. refute_statement x.0 x.1.0 x.1.1) (behind_mark after_in (both name_at (both params_at clause_at))) p
+refute_at p = given (λ x. refute_statement x.0 x.1.0 x.1.1.0 x.1.1.1) (behind_mark after_in (both name_at (both params_at (both clause_at further_at)))) p
 
 unfoldable pub later_at : Part Statement
 later_at p = given later_statement name_at p

@@ -1,5 +1,5 @@
 -- A statement apart from its types.
-use Rattle.std.specs.Prelude.{◌≡◌, ℕ, Bool, true, false, ◌||◌, ◌&&◌, not, List, [], length, Option, Some, None, ◌==◌}
+use Rattle.std.specs.Prelude.{◌≡◌, ℕ, max, Bool, true, false, ◌||◌, ◌&&◌, not, List, [], ◌∷◌, length, Option, Some, None, ◌==◌}
 use Rattle.std.specs.List.{list_any}
 use Rattle.std.specs.Option.{option_map_or}
 use Rattle.text_language.specs.Promised.Syntax.{Line}
@@ -19,19 +19,19 @@ params_said (crate_statement n us) = []
 params_said (struct_statement f n ps ss) = ps
 params_said (trait_statement f a n ps ss) = ps
 params_said (impl_statement ps h ks) = ps
-params_said (prove_statement c ps k ks) = ps
-params_said (refute_statement c ps k) = ps
+params_said (prove_statement c ps k js ks) = ps
+params_said (refute_statement c ps k js) = ps
 params_said (later_statement n) = []
 params_said (supers_statement n) = []
 
--- the number of fields, supertraits or clauses
+-- the number of fields, supertraits, clauses or queried bounds; the greater one where there are two lists
 abbrev pub count_said : Statement → ℕ
 count_said (crate_statement n us) = 0
 count_said (struct_statement f n ps ss) = length ss
 count_said (trait_statement f a n ps ss) = length ss
 count_said (impl_statement ps h ks) = length ks
-count_said (prove_statement c ps k ks) = length ks
-count_said (refute_statement c ps k) = 0
+count_said (prove_statement c ps k js ks) = max (length (k ∷ js)) (length ks)
+count_said (refute_statement c ps k js) = length (k ∷ js)
 count_said (later_statement n) = 0
 count_said (supers_statement n) = 0
 
@@ -50,7 +50,7 @@ is_loaded (trait_statement f a n ps ss) = a && not ((length ps == 0) && (length 
 is_loaded _ = false
 
 abbrev pub refutes_some : Statement → Bool
-refutes_some (refute_statement c ps k) = not (length ps == 0)
+refutes_some (refute_statement c ps k js) = not (length ps == 0)
 refutes_some _ = false
 
 abbrev pub has_long : Statement → Bool

@@ -18,8 +18,8 @@ pub data Statement : Type 0 where
   struct_statement : (is_fundamental : Bool) (name : List ℕ) (params : List Param) (fields : List Span) → Statement
   trait_statement : (is_fundamental is_auto : Bool) (name : List ℕ) (params : List Param) (bounds : List Span) → Statement
   impl_statement : (params : List Param) (header : ClauseSpans) (clauses : List ClauseSpans) → Statement
-  prove_statement : (asker : List ℕ) (params : List Param) (asked : ClauseSpans) (clauses : List ClauseSpans) → Statement
-  refute_statement : (asker : List ℕ) (params : List Param) (asked : ClauseSpans) → Statement
+  prove_statement : (asker : List ℕ) (params : List Param) (asked : ClauseSpans) (further clauses : List ClauseSpans) → Statement
+  refute_statement : (asker : List ℕ) (params : List Param) (asked : ClauseSpans) (further : List ClauseSpans) → Statement
   later_statement : (changed : List ℕ) → Statement
   supers_statement : (asked : List ℕ) → Statement
 
@@ -71,8 +71,8 @@ line_cells (crate_line n us) = []
 line_cells (struct_line f n ps fs) = all_onto type_onto (type_list fs) []
 line_cells (trait_line f a n ps bs) = all_onto bound_onto bs []
 line_cells (impl_line ps h ks) = all_onto clause_onto ks (header_onto h [])
-line_cells (prove_line c ps k ks) = all_onto clause_onto ks (clause_onto k [])
-line_cells (refute_line c ps k) = clause_onto k []
+line_cells (prove_line c ps k bs ks) = all_onto clause_onto ks (all_onto clause_onto (k ∷ bs) [])
+line_cells (refute_line c ps k bs) = all_onto clause_onto (k ∷ bs) []
 line_cells (later_line n) = []
 line_cells (supers_line n) = []
 
@@ -81,7 +81,8 @@ line_statement (crate_line n us) = crate_statement n us
 line_statement (struct_line f n ps fs) = struct_statement f n (param_list ps) (all_spans type_onto type_span (type_list fs) [])
 line_statement (trait_line f a n ps bs) = trait_statement f a n (param_list ps) (all_spans bound_onto bound_span bs [])
 line_statement (impl_line ps h ks) = impl_statement (param_list ps) (header_spans h []) (all_spans clause_onto clause_spans ks (header_onto h []))
-line_statement (prove_line c ps k ks) = prove_statement c (param_list ps) (clause_spans k []) (all_spans clause_onto clause_spans ks (clause_onto k []))
-line_statement (refute_line c ps k) = refute_statement c (param_list ps) (clause_spans k [])
+line_statement (prove_line c ps k bs ks) =
+    prove_statement c (param_list ps) (clause_spans k []) (all_spans clause_onto clause_spans bs (clause_onto k [])) (all_spans clause_onto clause_spans ks (all_onto clause_onto (k ∷ bs) []))
+line_statement (refute_line c ps k bs) = refute_statement c (param_list ps) (clause_spans k []) (all_spans clause_onto clause_spans bs (clause_onto k []))
 line_statement (later_line n) = later_statement n
 line_statement (supers_line n) = supers_statement n

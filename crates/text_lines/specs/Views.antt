@@ -29,8 +29,8 @@ statement_of (statements.Crate n us) = said.crate_statement n.now (texts_in us.i
 statement_of (statements.Struct f n ps fs) = said.struct_statement f n.now (params_in ps.items) fs.items
 statement_of (statements.Trait f a n ps bs) = said.trait_statement f a n.now (params_in ps.items) bs.items
 statement_of (statements.Impl ps h ks) = said.impl_statement (params_in ps.items) h ks.items
-statement_of (statements.Prove c ps k ks) = said.prove_statement c.now (params_in ps.items) k ks.items
-statement_of (statements.Refute c ps k) = said.refute_statement c.now (params_in ps.items) k
+statement_of (statements.Prove c ps k js ks) = said.prove_statement c.now (params_in ps.items) k js.items ks.items
+statement_of (statements.Refute c ps k js) = said.refute_statement c.now (params_in ps.items) k js.items
 statement_of (statements.Later n) = said.later_statement n.now
 statement_of (statements.Supers n) = said.supers_statement n.now
 

@@ -1,6 +1,6 @@
-//! Clauses, and the `where` part of a line.
+//! Clauses, the `where` part of a line, and the bounds of a query.
 ghost use Rattle.text_lines.specs.Marks.{after_comma};
-ghost use Rattle.text_lines.specs.Parts.{clause_at, where_at, parts_between};
+ghost use Rattle.text_lines.specs.Parts.{clause_at, further_at, where_at, parts_between};
 ghost use Rattle.text_lines.specs.Steps.{Reads};
 
 use crate::line_error::LineError;
@@ -30,6 +30,18 @@ impl<'t, 'a> Reader<'t, 'a> {
             if !self.cursor.take_comma() {
                 return Ok(clauses);
             }
+        }
+    }
+
+    /// The bounds of a query after its first, each after a comma.
+    #[tactic(auto, unfolding(crate::specs::Parts::further_at))]
+    pub(crate) fn further_clauses(&mut self) -> Result<Vec<ClauseSpans>, LineError>
+        ensures { Reads (λ v. v.items) result further_at self.old self.new }
+    {
+        if self.cursor.take_comma() {
+            self.clauses()
+        } else {
+            Ok(Vec::new(self.alloc))
         }
     }
 

@@ -1,5 +1,5 @@
 //! The types and bounds of a line of any kind.
-ghost use Rattle.std.specs.Prelude.{◌≡◌, ◌∷◌, map, IfOk};
+ghost use Rattle.std.specs.Prelude.{◌≡◌, ◌∷◌, ◌++◌, map, IfOk};
 ghost use Rattle.std.specs.List.{flat_map};
 ghost use Rattle.text_lines.specs.LineParts.{type_place, bound_place, clause_places, places_in};
 ghost use Rattle.text_lines.specs.Views.{statement_of};
@@ -32,25 +32,35 @@ fn bound_parts(alloc: Global, spans: &[Span]) -> Result<Vec<LinePart>, AllocErro
         .collect(alloc)
 }
 
-/// The parts of the header or of the queried bound, and those of the clauses.
-fn clause_parts(
-    alloc: Global,
-    first: LinePart,
-    second: LinePart,
-    clauses: &[ClauseSpans],
-) -> Result<Vec<LinePart>, AllocError>
-    ensures { IfOk result (λ v. v.items ≡ first ∷ second ∷ flat_map clause_places clauses.now) }
+/// Appends the parts of the clauses.
+fn push_clauses(parts: &mut Vec<LinePart>, clauses: &[ClauseSpans]) -> Result<(), AllocError>
+    ensures { IfOk result (λ u. parts.new.items ≡ parts.old.items ++ flat_map clause_places clauses.now) }
 {
-    let count = clauses.len().saturating_mul(2).saturating_add(2);
-    let mut parts = Vec::with_capacity(alloc, count)?;
-    parts.push(first)?;
-    parts.push(second)?;
     let mut rest = clauses;
     while let [clause, others @ ..] = rest {
         parts.push(LinePart::Type(clause.subject))?;
         parts.push(LinePart::Bound(clause.bound))?;
         rest = others;
     }
+    Ok(())
+}
+
+/// The parts of the header or of the first queried bound, those of the further bounds, and those of the clauses.
+fn clause_parts(
+    alloc: Global,
+    first: LinePart,
+    second: LinePart,
+    further: &[ClauseSpans],
+    clauses: &[ClauseSpans],
+) -> Result<Vec<LinePart>, AllocError>
+    ensures { IfOk result (λ v. v.items ≡ first ∷ second ∷ (flat_map clause_places further.now ++ flat_map clause_places clauses.now)) }
+{
+    let count = further.len().saturating_add(clauses.len());
+    let mut parts = Vec::with_capacity(alloc, count.saturating_mul(2).saturating_add(2))?;
+    parts.push(first)?;
+    parts.push(second)?;
+    push_clauses(&mut parts, further)?;
+    push_clauses(&mut parts, clauses)?;
     Ok(parts)
 }
 
@@ -73,19 +83,27 @@ impl<'a> Statement<'a> {
                 alloc,
                 LinePart::Bound(header.bound),
                 LinePart::Type(header.subject),
+                &[],
                 clauses,
             ),
-            Statement::Prove { asked, clauses, .. } => clause_parts(
+            Statement::Prove {
+                asked,
+                further,
+                clauses,
+                ..
+            } => clause_parts(
                 alloc,
                 LinePart::Type(asked.subject),
                 LinePart::Bound(asked.bound),
+                further,
                 clauses,
             ),
-            Statement::Refute { asked, .. } => clause_parts(
+            Statement::Refute { asked, further, .. } => clause_parts(
                 alloc,
                 LinePart::Type(asked.subject),
                 LinePart::Bound(asked.bound),
                 &[],
+                further,
             ),
         }
     }

@@ -1,4 +1,4 @@
-//! `prove in CRATE<...> TYPE: BOUND where ...`, and `refute in CRATE<...> TYPE: BOUND`
+//! `prove in CRATE<...> TYPE: BOUND, ... where ...`, and `refute in CRATE<...> TYPE: BOUND, ...`
 ghost use Rattle.text_lines.specs.Parts.{prove_at, refute_at};
 ghost use Rattle.text_lines.specs.Steps.{Reads};
 ghost use Rattle.text_lines.specs.Views.{statement_of};
@@ -17,11 +17,13 @@ impl<'t, 'a> Reader<'t, 'a> {
         let crate_name = self.name()?;
         let params = self.params()?;
         let asked = self.clause()?;
+        let further = self.further_clauses()?;
         let clauses = self.where_clauses()?;
         Ok(Statement::Prove {
             crate_name,
             params,
             asked,
+            further,
             clauses,
         })
     }
@@ -35,10 +37,12 @@ impl<'t, 'a> Reader<'t, 'a> {
         let crate_name = self.name()?;
         let params = self.params()?;
         let asked = self.clause()?;
+        let further = self.further_clauses()?;
         Ok(Statement::Refute {
             crate_name,
             params,
             asked,
+            further,
         })
     }
 }

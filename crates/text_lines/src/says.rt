@@ -54,7 +54,7 @@ impl<'a> Statement<'a> {
         }
     }
 
-    /// The number of fields, supertraits or clauses.
+    /// The number of fields, supertraits, clauses or queried bounds. Of `prove` with where-clauses it is the greater one.
     pub fn part_count(&self) -> usize
         ensures { result ≡ count_said (statement_of self.now) }
     {
@@ -63,8 +63,13 @@ impl<'a> Statement<'a> {
             Statement::Struct { fields, .. } => fields.len(),
             Statement::Trait { bounds, .. } => bounds.len(),
             Statement::Impl { clauses, .. } => clauses.len(),
-            Statement::Prove { clauses, .. } => clauses.len(),
-            Statement::Refute { .. } | Statement::Later { .. } | Statement::Supers { .. } => 0,
+            Statement::Prove {
+                further,
+                clauses,
+                ..
+            } => (further.len() + 1).max(clauses.len()),
+            Statement::Refute { further, .. } => further.len() + 1,
+            Statement::Later { .. } | Statement::Supers { .. } => 0,
         }
     }
 

@@ -73,11 +73,13 @@ pub enum Statement<'a> {
         header: ClauseSpans,
         clauses: Vec<ClauseSpans>,
     },
-    /// `prove in CRATE<...> TYPE: BOUND where TYPE: BOUND, ...`
+    /// `prove in CRATE<...> TYPE: BOUND, TYPE: BOUND, ... where TYPE: BOUND, ...`
     Prove {
         crate_name: &'a [u8],
         params: Vec<Param<'a>>,
         asked: ClauseSpans,
+        /// The bounds after the first.
+        further: Vec<ClauseSpans>,
         clauses: Vec<ClauseSpans>,
     },
     /// `later CRATE`
@@ -88,11 +90,13 @@ pub enum Statement<'a> {
     Supers {
         crate_name: &'a [u8],
     },
-    /// `refute in CRATE<...> TYPE: BOUND`
+    /// `refute in CRATE<...> TYPE: BOUND, TYPE: BOUND, ...`
     Refute {
         crate_name: &'a [u8],
         params: Vec<Param<'a>>,
         asked: ClauseSpans,
+        /// The bounds after the first.
+        further: Vec<ClauseSpans>,
     },
 }
 

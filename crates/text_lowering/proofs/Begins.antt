@@ -265,8 +265,8 @@ line-added d line (crate_line n us) w f h = h
 line-added d line (struct_line g n ps fs) w f h = h
 line-added d line (trait_line g a n ps bs) w f h = h
 line-added d line (impl_line ps k ks) w f h = impl-begun d (impl_of d (item_meanings d (impl_line ps k ks) 0) ps k ks) (header-begins d line ps k ks w f) h
-line-added d line (prove_line c ps a ks) w f h = h
-line-added d line (refute_line c ps a) w f h = h
+line-added d line (prove_line c ps a bs ks) w f h = h
+line-added d line (refute_line c ps a bs) w f h = h
 line-added d line (later_line n) w f h = h
 line-added d line (supers_line n) w f h = h
 

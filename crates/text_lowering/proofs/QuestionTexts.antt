@@ -4,8 +4,10 @@ use Rattle.std.proofs.lemmas.Bool.{eqb-true}
 use Rattle.std.proofs.lemmas.Bool.Decides.{nat_tests}
 use Rattle.std.proofs.lemmas.Option.{same_Some}
 use Rattle.std.specs.Prelude.{◌==◌, slice_get}
+use Rattle.std.specs.List.{flat_map}
 use Rattle.type_terms.specs.Promised.Label.{Label, Sort, of_type, of_const, of_lifetime, fn_ptr, principal, param, bound}
 use Rattle.type_terms.specs.Promised.Trees.{Trees, none, tree, some_node}
+use Rattle.type_terms.specs.Promised.Worlds.{Reference}
 use Rattle.text_language.specs.Promised.Syntax.{Params, Clause, Line, crate_line, struct_line, trait_line, impl_line, prove_line, refute_line, later_line, supers_line}
 use Rattle.text_language.specs.Promised.Declarations.{Declarations, NamedImpl, Question, Variable, kinds_of}
 use Rattle.text_language.specs.Declarations.{nothing_declared}
@@ -20,11 +22,11 @@ use Rattle.text_lines.specs.Faultless.{UsesFit}
 use Rattle.text_lines.proofs.NoFault.{passes-tests}
 use Rattle.text_lines.proofs.FittingUses.{faultless-uses}
 use Rattle.text_lowering.specs.Promised.SeenWorlds.{plain, plain_label, all_kept}
-use Rattle.text_lowering.specs.QuestionVariables.{is_undeclared_variable, HasVariablesAlone, RefutationsHaveVariablesAlone}
+use Rattle.text_lowering.specs.QuestionVariables.{is_undeclared_variable, HoldsVariablesAlone, HasVariablesAlone, RefutationsHaveVariablesAlone}
 use Rattle.text_lowering.proofs.Applied.{each-more}
 use Rattle.text_lowering.proofs.ScalarTokens.{refute-scalars}
 use Rattle.text_lowering.proofs.Variables.{ArePlaced, are-placed}
-use Rattle.text_lowering.proofs.QuestionTypes.{bare, line, means, AllIn, good-asked}
+use Rattle.text_lowering.proofs.QuestionTypes.{bare, line, means, AllIn, good-clauses}
 
 -- ---- variables have places
 below-fine : (i n : ℕ) → i < n → not (ltb i n) ≡ false
@@ -34,11 +36,11 @@ below-fine i n h = by (ltb i n) refl
     by true e = refl
     by false e = absurd (grind (arith, nat_tests))
 
-module _ (d : Declarations) (c : List ℕ) (a : Clause) (all : List (List ℕ × Sort)) where
+module _ (d : Declarations) (c : List ℕ) (a : Clause) (bs : List Clause) (all : List (List ℕ × Sort)) where
   abbrev vars : List (List ℕ × Sort)
   vars = once all
 
-  uses-in : (us : List Use) → ArePlaced all (variables_in us) → UsesFit d (line d c a vars) us → AllIn d c a vars us
+  uses-in : (us : List Use) → ArePlaced all (variables_in us) → UsesFit d (line d c a bs vars) us → AllIn d c a bs vars us
   uses-in [] h f = tt
   uses-in (variable_use of_type n ∷ us) h f = ((f.0, below-fine _ _ h.0), uses-in us h.1 f.1)
   uses-in (variable_use of_const n ∷ us) h f = ((f.0, below-fine _ _ h.0), uses-in us h.1 f.1)
@@ -84,21 +86,30 @@ no-params ps h = by ps.lifetimes ps.types ps.consts (drop-not _ h)
     by [] (x ∷ ts) cs g = absurd (none-there _ g)
     by [] [] (x ∷ cs) g = absurd (none-there _ g)
 
-bare-alone : (d : Declarations) (text : List ℕ) (c : List ℕ) (a : Clause) → IsWritten text (refute_line c bare a) → fault_of d (refute_line c bare a) ≡ None
-    → HasVariablesAlone (question_of d (question_meanings d (refute_line c bare a)) true c bare a [])
-bare-alone d text c a w f =
-    let all = variables_in (clause_uses d a) in
-    let p = passes-tests d (refute_line c bare a) f in
-    let good = good-asked d c a (once all) (refute-scalars text c bare a w) (uses-in d c a all (clause_uses d a) (are-placed all all (λ n q h. h) p.has_asked_variables) (faultless-uses d (refute_line c bare a) f).1) in
-    ap (λ ks. some_node (is_undeclared_variable ks) (plain all_kept (clause_reference (means d c a (once all)) a).args)) (sym (map-twice (once all)))
-    ∙ plain-stray (map (λ v. v.1) (once all)) (clause_reference (means d c a (once all)) a).args ∙ good
+-- each holds its variables alone, whatever its lifetimes are
+plain-alone : (vs : List (List ℕ × Sort)) (rs : List Reference) → Each (λ r. some_node (is_undeclared_variable (map (λ v. v.1) vs)) r.args ≡ false) rs
+    → Each (HoldsVariablesAlone (map (λ v. v.kind) (map (λ v. (let x : Variable = record { text = v.0; kind = v.1 } in x)) vs))) rs
+plain-alone vs [] h = tt
+plain-alone vs (r ∷ rs) h = (
+  ap (λ ks. some_node (is_undeclared_variable ks) (plain all_kept r.args)) (sym (map-twice vs)) ∙ plain-stray (map (λ v. v.1) vs) r.args ∙ h.0,
+  plain-alone vs rs h.1,
+)
 
-refute-alone : (d : Declarations) (text : List ℕ) (c : List ℕ) (ps : Params) (a : Clause) → IsWritten text (refute_line c ps a) → fault_of d (refute_line c ps a) ≡ None
-    → HasVariablesAlone (question_of d (question_meanings d (refute_line c ps a)) true c ps a [])
-refute-alone d text c ps a w f =
-    let e : ps ≡ bare = no-params ps (passes-tests d (refute_line c ps a) f).refutes_bare in
-    subst (λ z. IsWritten text (refute_line c z a) → fault_of d (refute_line c z a) ≡ None → HasVariablesAlone (question_of d (question_meanings d (refute_line c z a)) true c z a [])) (sym e)
-    (bare-alone d text c a) w f
+bare-alone : (d : Declarations) (text : List ℕ) (c : List ℕ) (a : Clause) (bs : List Clause) → IsWritten text (refute_line c bare a bs) → fault_of d (refute_line c bare a bs) ≡ None
+    → HasVariablesAlone (question_of d (question_meanings d (refute_line c bare a bs)) true c bare a bs [])
+bare-alone d text c a bs w f =
+    let us : List Use = flat_map (clause_uses d) (a ∷ bs) in
+    let all = variables_in us in
+    let p = passes-tests d (refute_line c bare a bs) f in
+    let fit = uses-in d c a bs all us (are-placed all all (λ n q h. h) p.has_asked_variables) (faultless-uses d (refute_line c bare a bs) f).1 in
+    plain-alone (once all) (map (clause_reference (means d c a bs (once all))) (a ∷ bs)) (good-clauses d c a bs (once all) (a ∷ bs) (refute-scalars text c bare a bs w) fit)
+
+refute-alone : (d : Declarations) (text : List ℕ) (c : List ℕ) (ps : Params) (a : Clause) (bs : List Clause) → IsWritten text (refute_line c ps a bs) → fault_of d (refute_line c ps a bs) ≡ None
+    → HasVariablesAlone (question_of d (question_meanings d (refute_line c ps a bs)) true c ps a bs [])
+refute-alone d text c ps a bs w f =
+    let e : ps ≡ bare = no-params ps (passes-tests d (refute_line c ps a bs) f).refutes_bare in
+    subst (λ z. IsWritten text (refute_line c z a bs) → fault_of d (refute_line c z a bs) ≡ None → HasVariablesAlone (question_of d (question_meanings d (refute_line c z a bs)) true c z a bs [])) (sym e)
+    (bare-alone d text c a bs) w f
 
 line-asked : (d : Declarations) (text : List ℕ) (l : Line) → IsWritten text l → fault_of d l ≡ None → Each Alone d.questions → Each Alone (added d l).questions
 line-asked d text (crate_line n us) w f h = h
@@ -114,8 +125,8 @@ line-asked d text (impl_line ps k ks) w f h = by d.in_section
     by false = h
 line-asked d text (later_line n) w f h = h
 line-asked d text (supers_line n) w f h = h
-line-asked d text (prove_line c ps a ks) w f h = each-more Alone d.questions _ h (λ e. absurd cc)
-line-asked d text (refute_line c ps a) w f h = each-more Alone d.questions _ h (λ e. refute-alone d text c ps a w f)
+line-asked d text (prove_line c ps a bs ks) w f h = each-more Alone d.questions _ h (λ e. absurd cc)
+line-asked d text (refute_line c ps a bs) w f h = each-more Alone d.questions _ h (λ e. refute-alone d text c ps a bs w f)
 
 -- ---- texts
 abbrev AskedIfTaken : {E : Type 0} → Result Declarations E → Type 0

@@ -1,5 +1,6 @@
 -- The types of a `refute` line without a fault hold no open place but its variables.
 use Rattle.std.proofs.Common.{◌≡◌, ℕ, suc, Bool, true, false, ◌||◌, List, [], ◌∷◌, ◌++◌, map, length, Option, Some, None, refl, if◌then◌else◌}
+use Rattle.std.specs.List.{flat_map}
 use Rattle.std.specs.Option.{option_map_or}
 use Rattle.std.specs.Str.{bytes_eq}
 use Rattle.type_terms.specs.Promised.Label.{Label, Sort, of_lifetime, of_type, of_const, bool, char, str, never, array, slice, tuple, dynamic, static, int, uint, adt, fn_ptr, auto_trait, value, ref, raw_pointer, principal, param, placeholder, infer, canonical, bound, predicate}
@@ -11,19 +12,20 @@ use Rattle.text_language.specs.Uses.{Use, trait_use, variable_use, name_use, ite
 use Rattle.text_language.specs.Promised.Faults.{is_among, is_auto_name}
 use Rattle.text_language.specs.Faults.{is_type_of, static_name}
 use Rattle.text_language.specs.Lowering.{Meanings, place_among, variable_label, lifetime_under, lifetime_label, optional_lifetime, length_label, struct_label, trait_number, auto_leaves, autos, with_auto, item_lifetime, last_lifetime, type_tree, types_trees, args_trees, arg_tree, item_tree, items_trees, clause_reference}
+use Rattle.declarations.specs.Promised.Elaboration.{Each}
 use Rattle.text_lines.specs.Faultless.{UseFits}
 use Rattle.text_lowering.proofs.Begins.{is_scalar}
 use Rattle.text_lowering.specs.QuestionVariables.{is_undeclared_variable}
 use Rattle.text_lowering.proofs.Scalars.{Scalars, ScalarTypes, ScalarArgs, ScalarArg, ScalarItem, ScalarItems}
-use Rattle.text_lowering.proofs.ScalarTokens.{ScalarClause}
+use Rattle.text_lowering.proofs.ScalarTokens.{ScalarClause, ScalarClauses}
 
 -- no parameters
 abbrev pub bare : Params
 bare = record { lifetimes = []; types = []; consts = [] }
 
-module _ (d : Declarations) (c : List ℕ) (a : Clause) (vars : List (List ℕ × Sort)) where
+module _ (d : Declarations) (c : List ℕ) (a : Clause) (bs : List Clause) (vars : List (List ℕ × Sort)) where
   abbrev pub line : Line
-  line = refute_line c bare a
+  line = refute_line c bare a bs
 
   abbrev pub means : Meanings
   means = record { items = d; params = bare; first = 0; parameter = placeholder; variables = vars }
@@ -210,7 +212,12 @@ module _ (d : Declarations) (c : List ℕ) (a : Clause) (vars : List (List ℕ �
     good-arg s of_const (type_arg (dyn_of x y)) f h = absurd h.0.0
 
   -- what is asked
-  pub good-asked : ScalarClause a → AllIn (clause_uses d a) → Good (clause_reference means a).args
-  good-asked f h =
-      both (type_tree means [] of_type a.subject) (args_trees means [] (kinds_of_trait (known d a.bound.trait)) a.bound.args) (good-type [] a.subject f.0 (first-in (type_uses d [] of_type a.subject) (bound_uses d a.bound) h))
-      (good-args [] (kinds_of_trait (known d a.bound.trait)) a.bound.args f.1 (rest-in (type_uses d [] of_type a.subject) (bound_uses d a.bound) h).1)
+  good-clause : (k : Clause) → ScalarClause k → AllIn (clause_uses d k) → Good (clause_reference means k).args
+  good-clause k f h =
+      both (type_tree means [] of_type k.subject) (args_trees means [] (kinds_of_trait (known d k.bound.trait)) k.bound.args) (good-type [] k.subject f.0 (first-in (type_uses d [] of_type k.subject) (bound_uses d k.bound) h))
+      (good-args [] (kinds_of_trait (known d k.bound.trait)) k.bound.args f.1 (rest-in (type_uses d [] of_type k.subject) (bound_uses d k.bound) h).1)
+
+  pub good-clauses : (ks : List Clause) → ScalarClauses ks → AllIn (flat_map (clause_uses d) ks) → Each (λ r. Good r.args) (map (clause_reference means) ks)
+  good-clauses [] f h = tt
+  good-clauses (k ∷ ks) f h =
+      (good-clause k f.0 (first-in (clause_uses d k) (flat_map (clause_uses d) ks) h), good-clauses ks f.1 (rest-in (clause_uses d k) (flat_map (clause_uses d) ks) h))

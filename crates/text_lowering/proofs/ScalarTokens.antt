@@ -2,7 +2,7 @@
 use Rattle.std.proofs.Common.{ℕ, Bool, List, [], ◌∷◌, ◌++◌, map}
 use Rattle.text_language.specs.Words.{comma, for_word, fundamental_word, auto_word, colon}
 use Rattle.text_language.specs.Words as words
-use Rattle.text_language.specs.Tokens.{sign, keyword, arrow, name, tokens_of, pieces}
+use Rattle.text_language.specs.Tokens.{Token, sign, keyword, arrow, name, tokens_of, pieces}
 use Rattle.text_language.specs.Promised.Syntax.{TypeTree, of_primitive, never_type, variable_type, named, reference_to, pointer_to, slice_of, array_of, tuple_of, fn_of, fn_to, dyn_of, Types, no_types, and_type, Args, no_args, and_arg, Arg, lifetime_arg, number_arg, type_arg, Item, bound_item, lifetime_item, DynBounds, no_items, and_item, Params, Bound, Clause, struct_line, trait_line, impl_line, prove_line, refute_line}
 use Rattle.text_language.specs.Syntax.{type_spelling, lifetime_spelling, mut_spelling, binder_spelling, tuple_spelling, second_item, inputs_spelling, more_types, args_spelling, more_args, arg_spelling, item_spelling, more_items, params_spelling, bound_spelling, clause_spelling, bounds_spelling, where_spelling, fields_spelling, behind, spelling, if_so}
 use Rattle.text_language.specs.Written.{IsWritten}
@@ -122,12 +122,18 @@ impl-scalars line ps h ks w =
       first-clauses ks (fine-behind (type_spelling h.subject) (where_spelling (map clause_spelling ks)) two.1),
     )
 
-pub prove-scalars : (line : List ℕ) (c : List ℕ) (ps : Params) (a : Clause) (ks : List Clause) → IsWritten line (prove_line c ps a ks) → ScalarClause a × ScalarClauses ks
+pub prove-scalars : (line : List ℕ) (c : List ℕ) (ps : Params) (a : Clause) (bs ks : List Clause) → IsWritten line (prove_line c ps a bs ks) → ScalarClauses (a ∷ bs) × ScalarClauses ks
 unfolding tokens_of
-prove-scalars line c ps a ks w =
-    let all = fine-behind (params_spelling ps) (clause_spelling a ++ where_spelling (map clause_spelling ks)) (tokens-fine (pieces line) (spelling (prove_line c ps a ks)) w).1.1.1 in
-    (scalar-clause a (fine-front (clause_spelling a) (where_spelling (map clause_spelling ks)) all), first-clauses ks (fine-behind (clause_spelling a) (where_spelling (map clause_spelling ks)) all))
+prove-scalars line c ps a bs ks w =
+    let others : List Token = behind comma (map clause_spelling bs) in
+    let more : List Token = where_spelling (map clause_spelling ks) in
+    let all = fine-behind (params_spelling ps) (clause_spelling a ++ (others ++ more)) (tokens-fine (pieces line) (spelling (prove_line c ps a bs ks)) w).1.1.1 in
+    let rest = fine-behind (clause_spelling a) (others ++ more) all in
+    ((scalar-clause a (fine-front (clause_spelling a) (others ++ more) all), scalar-clauses bs (fine-front others more rest)), first-clauses ks (fine-behind others more rest))
 
-pub refute-scalars : (line : List ℕ) (c : List ℕ) (ps : Params) (a : Clause) → IsWritten line (refute_line c ps a) → ScalarClause a
+pub refute-scalars : (line : List ℕ) (c : List ℕ) (ps : Params) (a : Clause) (bs : List Clause) → IsWritten line (refute_line c ps a bs) → ScalarClauses (a ∷ bs)
 unfolding tokens_of
-refute-scalars line c ps a w = scalar-clause a (fine-behind (params_spelling ps) (clause_spelling a) (tokens-fine (pieces line) (spelling (refute_line c ps a)) w).1.1.1)
+refute-scalars line c ps a bs w =
+    let others : List Token = behind comma (map clause_spelling bs) in
+    let all = fine-behind (params_spelling ps) (clause_spelling a ++ others) (tokens-fine (pieces line) (spelling (refute_line c ps a bs)) w).1.1.1 in
+    (scalar-clause a (fine-front (clause_spelling a) others all), scalar-clauses bs (fine-behind (clause_spelling a) others all))

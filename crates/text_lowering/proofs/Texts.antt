@@ -156,9 +156,9 @@ impl-well d x g h = by d.in_section
 pub line-added : (d : Declarations) (line : List ℕ) (l : Line) → IsWritten line l → fault_of d l ≡ None → Well d → Well (added d l)
 line-added d line (crate_line n us) w f h =
     record { structs = h.structs; traits = h.traits; impls = h.impls; later_impls = h.later_impls; struct_numbers = h.struct_numbers; trait_numbers = h.trait_numbers; bare = h.bare; bounds = h.bounds }
-line-added d line (prove_line c ps a ks) w f h =
+line-added d line (prove_line c ps a bs ks) w f h =
     record { structs = h.structs; traits = h.traits; impls = h.impls; later_impls = h.later_impls; struct_numbers = h.struct_numbers; trait_numbers = h.trait_numbers; bare = h.bare; bounds = h.bounds }
-line-added d line (refute_line c ps a) w f h =
+line-added d line (refute_line c ps a bs) w f h =
     record { structs = h.structs; traits = h.traits; impls = h.impls; later_impls = h.later_impls; struct_numbers = h.struct_numbers; trait_numbers = h.trait_numbers; bare = h.bare; bounds = h.bounds }
 line-added d line (struct_line g n ps fs) w f h =
     let l = struct_line g n ps fs in

@@ -2,6 +2,8 @@
 use Rattle.std.specs.Prelude.{◌≡◌, ℕ, zero, suc, Bool, true, false, not, ltb, if◌then◌else◌, List, [], ◌∷◌, Ok, Some, slice_get}
 use Rattle.type_terms.specs.Promised.Label.{Label, Sort, of_type, of_const, of_lifetime, param, placeholder, infer, canonical, bound}
 use Rattle.type_terms.specs.Promised.Trees.{is_sort, some_node}
+use Rattle.type_terms.specs.Promised.Worlds.{Reference}
+use Rattle.declarations.specs.Promised.Elaboration.{Each}
 use Rattle.text_language.specs.Promised.Declarations.{Declarations, Question}
 use Rattle.text_language.specs.Text.{TextGives}
 use Rattle.text_lowering.specs.Promised.SeenWorlds.{unbound_reference}
@@ -26,9 +28,13 @@ is_undeclared_variable ks (bound of_lifetime j i) = false
 is_undeclared_variable ks (bound s j i) = true
 is_undeclared_variable ks l = false
 
--- The query's trait reference holds no parameter that is a type or a constant, and no inference variable but those of the query.
+-- The trait reference holds no parameter that is a type or a constant, and no inference variable but those of these kinds.
+abbrev pub HoldsVariablesAlone : List Sort → Reference → Type 0
+HoldsVariablesAlone ks r = some_node (is_undeclared_variable ks) (unbound_reference r).args ≡ false
+
+-- This holds of each trait reference of the query, with the kinds of the query's variables.
 abbrev pub HasVariablesAlone : Question → Type 0
-HasVariablesAlone q = some_node (is_undeclared_variable (variable_kinds q)) (unbound_reference q.asked).args ≡ false
+HasVariablesAlone q = Each (HoldsVariablesAlone (variable_kinds q)) (q.asked ∷ q.further)
 
 -- This holds for each `refute` query of a text without a fault.
 abbrev pub RefutationsHaveVariablesAlone : Type 0

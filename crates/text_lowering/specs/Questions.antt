@@ -18,9 +18,11 @@ use Rattle.text_lowering.specs.declared.question.Counts.{Counts}
 -- in the order of the query's variables.
 pub record IsLowered (es : List Entry) (q : Question) (l : LoweredQuestion) : Type 0 where
   pub asked : reference_in es l.asked ≡ unbound_reference q.asked
+  pub further : references_in es l.further.items ≡ unbound_references q.further
   pub clauses : references_in es l.clauses.items ≡ unbound_references q.clauses
   pub unknowns : map (arg_trees es) l.unknowns.items ≡ own_unknowns q
   pub asked_held : ReferenceHeld es l.asked
+  pub further_held : TraitRefsHeld es l.further.items
   pub clauses_held : TraitRefsHeld es l.clauses.items
   pub unknowns_held : ArgsHeld es l.unknowns.items
 

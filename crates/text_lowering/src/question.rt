@@ -1,10 +1,10 @@
 //! Queries, with their types as terms.
-ghost use Rattle.std.specs.Prelude.{◌≡◌, map, IfOk};
+ghost use Rattle.std.specs.Prelude.{◌≡◌, ◌∷◌, map, IfOk};
 ghost use Rattle.text_language.specs.Promised.Declarations.{Question};
 ghost use Rattle.text_language.specs.Names.{own_from};
 ghost use Rattle.type_terms.specs.Promised.Handles.{arg_trees, ArgsHeld, ArgHeld};
 ghost use Rattle.type_terms.specs.Growth.{GrewOrFull};
-ghost use Rattle.text_tables.specs.Made.{ReferenceMade, ReferencesMade};
+ghost use Rattle.text_tables.specs.Made.{ReferencesMade};
 ghost use Rattle.text_tables.specs.Views.{question_of, variable_of};
 ghost use Rattle.text_lowering.specs.Promised.Questions.{IsQuestion};
 ghost use Rattle.text_lowering.specs.Questions.{IsLowered, IsNextUnknown};
@@ -24,8 +24,10 @@ use type_terms::{Fault, MAX_INDEX};
 /// inference variables.
 #[derive(Drop)]
 pub struct LoweredQuestion {
-    /// The trait reference of the query.
+    /// The first trait reference of the query.
     pub asked: TraitRef,
+    /// Its other trait references, in the order of the text.
+    pub further: Vec<TraitRef>,
     /// The where-clauses as they are written, without their supertraits.
     pub clauses: Vec<TraitRef>,
     /// The inference variable for each variable of the query, in the order of first occurrence. Those of one kind count from 0.
@@ -104,16 +106,18 @@ fn lower_entry(
     cx: &mut Interner,
     entry: &QuestionEntry,
 ) -> Result<LoweredQuestion, Fault>
-    requires asked { ReferenceMade entry.now.asked }
+    requires asked { ReferencesMade (entry.now.asked ∷ entry.now.further.items) }
     requires clauses { ReferencesMade entry.now.clauses.items }
     ensures lowered { IfOk result (λ lowered. IsLowered cx.new.entries (question_of entry.now) lowered) }
     ensures terms { GrewOrFull cx.old cx.new result }
 {
     let asked = lower_reference(alloc, cx, &entry.asked, Kept::All)?;
+    let further = lower_references(alloc, cx, &entry.further, Kept::All)?;
     let clauses = lower_references(alloc, cx, &entry.clauses, Kept::All)?;
     let unknowns = own_unknowns(alloc, cx, &entry.variables)?;
     Ok(LoweredQuestion {
         asked,
+        further,
         clauses,
         unknowns,
     })

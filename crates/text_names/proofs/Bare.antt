@@ -68,8 +68,8 @@ bare (crate_line n us) = crate_line n []
 bare (struct_line f n ps fs) = struct_line f n ps no_types
 bare (trait_line f a n ps bs) = trait_line f a n ps []
 bare (impl_line ps h ks) = impl_line ps no_clause []
-bare (prove_line c ps k ks) = prove_line c ps no_clause []
-bare (refute_line c ps k) = refute_line c ps no_clause
+bare (prove_line c ps k bs ks) = prove_line c ps no_clause [] []
+bare (refute_line c ps k bs) = refute_line c ps no_clause []
 bare (later_line n) = later_line n
 bare (supers_line n) = supers_line n
 
@@ -80,8 +80,8 @@ speaks-bare (struct_line f n ps fs) (struct_line g m qs gs) e =
 speaks-bare (trait_line f a n ps bs) (trait_line g b m qs cs) e =
     ap (λ z. trait_line z a n ps []) e.0 ∙ ap (λ z. trait_line g z n ps []) e.1 ∙ ap (λ z. trait_line g b z ps []) e.2 ∙ ap (λ z. trait_line g b m z []) (params-by ps qs e.3)
 speaks-bare (impl_line ps h ks) (impl_line qs i js) e = ap (λ z. impl_line z no_clause []) (params-by ps qs e)
-speaks-bare (prove_line c ps k ks) (prove_line b qs j js) e = ap (λ z. prove_line z ps no_clause []) e.0 ∙ ap (λ z. prove_line b z no_clause []) (params-by ps qs e.1)
-speaks-bare (refute_line c ps k) (refute_line b qs j) e = ap (λ z. refute_line z ps no_clause) e.0 ∙ ap (λ z. refute_line b z no_clause) (params-by ps qs e.1)
+speaks-bare (prove_line c ps k bs ks) (prove_line b qs j cs js) e = ap (λ z. prove_line z ps no_clause [] []) e.0 ∙ ap (λ z. prove_line b z no_clause [] []) (params-by ps qs e.1)
+speaks-bare (refute_line c ps k bs) (refute_line b qs j cs) e = ap (λ z. refute_line z ps no_clause []) e.0 ∙ ap (λ z. refute_line b z no_clause []) (params-by ps qs e.1)
 speaks-bare (later_line n) (later_line m) e = ap later_line e
 speaks-bare (supers_line n) (supers_line m) e = ap supers_line e
 speaks-bare _ _ e = absurd e
@@ -94,8 +94,8 @@ own-bare d (crate_line n us) = refl
 own-bare d (struct_line f n ps fs) = refl
 own-bare d (trait_line f a n ps bs) = refl
 own-bare d (impl_line ps h ks) = refl
-own-bare d (prove_line c ps k ks) = refl
-own-bare d (refute_line c ps k) = refl
+own-bare d (prove_line c ps k bs ks) = refl
+own-bare d (refute_line c ps k bs) = refl
 own-bare d (later_line n) = refl
 own-bare d (supers_line n) = refl
 
@@ -104,8 +104,8 @@ findings-bare d (crate_line n us) ws = refl
 findings-bare d (struct_line f n ps fs) ws = refl
 findings-bare d (trait_line f a n ps bs) ws = refl
 findings-bare d (impl_line ps h ks) ws = refl
-findings-bare d (prove_line c ps k ks) ws = refl
-findings-bare d (refute_line c ps k) ws = refl
+findings-bare d (prove_line c ps k bs ks) ws = refl
+findings-bare d (refute_line c ps k bs) ws = refl
 findings-bare d (later_line n) ws = refl
 findings-bare d (supers_line n) ws = refl
 
@@ -114,8 +114,8 @@ params-bare (crate_line n us) = refl
 params-bare (struct_line f n ps fs) = refl
 params-bare (trait_line f a n ps bs) = refl
 params-bare (impl_line ps h ks) = refl
-params-bare (prove_line c ps k ks) = refl
-params-bare (refute_line c ps k) = refl
+params-bare (prove_line c ps k bs ks) = refl
+params-bare (refute_line c ps k bs) = refl
 params-bare (later_line n) = refl
 params-bare (supers_line n) = refl
 

@@ -94,8 +94,8 @@ line-impl (impl_line ps k ks) h e =
 line-impl (crate_line n us) h e = absurd (cc)
 line-impl (struct_line f n ps fs) h e = absurd (cc)
 line-impl (trait_line f a n ps bs) h e = absurd (cc)
-line-impl (prove_line c ps k ks) h e = absurd (cc)
-line-impl (refute_line c ps k) h e = absurd (cc)
+line-impl (prove_line c ps k bs ks) h e = absurd (cc)
+line-impl (refute_line c ps k bs) h e = absurd (cc)
 line-impl (later_line n) h e = absurd (cc)
 line-impl (supers_line n) h e = absurd (cc)
 
@@ -108,8 +108,8 @@ none-foreign d (impl_line ps k ks) e = absurd (cc)
 none-foreign d (crate_line n us) e = refl
 none-foreign d (struct_line f n ps fs) e = refl
 none-foreign d (trait_line f a n ps bs) e = refl
-none-foreign d (prove_line c ps k ks) e = refl
-none-foreign d (refute_line c ps k) e = refl
+none-foreign d (prove_line c ps k bs ks) e = refl
+none-foreign d (refute_line c ps k bs) e = refl
 none-foreign d (later_line n) e = refl
 none-foreign d (supers_line n) e = refl
 
@@ -118,8 +118,8 @@ none-built d (impl_line ps k ks) e = absurd (cc)
 none-built d (crate_line n us) e = refl
 none-built d (struct_line f n ps fs) e = refl
 none-built d (trait_line f a n ps bs) e = refl
-none-built d (prove_line c ps k ks) e = refl
-none-built d (refute_line c ps k) e = refl
+none-built d (prove_line c ps k bs ks) e = refl
+none-built d (refute_line c ps k bs) e = refl
 none-built d (later_line n) e = refl
 none-built d (supers_line n) e = refl
 

@@ -1,5 +1,5 @@
 -- What is found of a line decides the tests over what it uses.
-use Rattle.std.proofs.Common.{◌≡◌, ℕ, List, [], ◌∷◌, ◌++◌, map, refl, sym, ap, ◌∙◌}
+use Rattle.std.proofs.Common.{◌≡◌, ℕ, List, [], ◌∷◌, ◌++◌, map, refl, sym, ap, ◌∙◌, append-nil}
 use Rattle.std.specs.Prelude.{nat_lt, ◌||◌}
 use Rattle.std.specs.List.{flat_map}
 use Rattle.text_language.specs.Promised.Syntax.{Line, crate_line, struct_line, trait_line, impl_line, prove_line, refute_line, later_line, supers_line}
@@ -7,7 +7,7 @@ use Rattle.text_language.specs.Promised.Declarations.{Declarations}
 use Rattle.text_language.specs.Promised.Faults.{with_own}
 use Rattle.text_language.specs.Faults.{variables_in, depth_limit}
 use Rattle.text_language.specs.Uses.{crate_use, uses, asked_uses, other_uses, line_depth}
-use Rattle.text_lines.specs.LineParts.{part_uses, line_parts, asked_parts, named_crates}
+use Rattle.text_lines.specs.LineParts.{clause_parts, part_uses, line_parts, asked_parts, named_crates}
 use Rattle.text_lines.specs.Statement.{line_statement}
 use Rattle.text_lines.proofs.PartsOfLines.{uses-of-parts, asked-of-parts, depth-of-parts}
 use Rattle.text_names.specs.Machine.{Sight, seen_items, findings, either}
@@ -27,8 +27,8 @@ parts-together (crate_line n us) = refl
 parts-together (struct_line f n ps fs) = refl
 parts-together (trait_line f a n ps bs) = refl
 parts-together (impl_line ps h ks) = refl
-parts-together (prove_line c ps k ks) = refl
-parts-together (refute_line c ps k) = refl
+parts-together (prove_line c ps k bs ks) = refl
+parts-together (refute_line c ps k bs) = append-nil (flat_map clause_parts (k ∷ bs))
 parts-together (later_line n) = refl
 parts-together (supers_line n) = refl
 
@@ -51,8 +51,8 @@ asked-before d (crate_line n us) = refl
 asked-before d (struct_line f n ps fs) = refl
 asked-before d (trait_line f a n ps bs) = refl
 asked-before d (impl_line ps h ks) = refl
-asked-before d (prove_line c ps k ks) = refl
-asked-before d (refute_line c ps k) = refl
+asked-before d (prove_line c ps k bs ks) = refl
+asked-before d (refute_line c ps k bs) = refl
 asked-before d (later_line n) = refl
 asked-before d (supers_line n) = refl
 
@@ -69,8 +69,8 @@ others-use e (crate_line n us) = sym (no-variables us)
 others-use e (struct_line f n ps fs) = ap variables_in (sym (uses-of-parts e (struct_line f n ps fs)))
 others-use e (trait_line f a n ps bs) = ap variables_in (sym (uses-of-parts e (trait_line f a n ps bs)))
 others-use e (impl_line ps h ks) = ap variables_in (sym (uses-of-parts e (impl_line ps h ks)))
-others-use e (prove_line c ps k ks) = ap variables_in (sym (clauses-use e ks))
-others-use e (refute_line c ps k) = refl
+others-use e (prove_line c ps k bs ks) = ap variables_in (sym (clauses-use e ks))
+others-use e (refute_line c ps k bs) = refl
 others-use e (later_line n) = refl
 others-use e (supers_line n) = refl
 

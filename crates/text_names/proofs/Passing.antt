@@ -24,8 +24,8 @@ full-for d (crate_line n us) = refl
 full-for d (struct_line f n ps fs) = refl
 full-for d (trait_line f a n ps bs) = refl
 full-for d (impl_line ps h ks) = refl
-full-for d (prove_line c ps k ks) = refl
-full-for d (refute_line c ps k) = refl
+full-for d (prove_line c ps k bs ks) = refl
+full-for d (refute_line c ps k bs) = refl
 full-for d (later_line n) = refl
 full-for d (supers_line n) = refl
 

@@ -9,8 +9,8 @@ use Rattle.text_lines.specs.Statement.{Statement, crate_statement, impl_statemen
 -- There are already as many as there may be. `core` and sections are not counted.
 abbrev pub is_full_for : Declarations → Statement → Bool
 is_full_for d (crate_statement n us) = nat_lt crate_limit (length d.crates)
-is_full_for d (prove_statement c ps k ks) = nat_le question_limit (length d.questions)
-is_full_for d (refute_statement c ps k) = nat_le question_limit (length d.questions)
+is_full_for d (prove_statement c ps k js ks) = nat_le question_limit (length d.questions)
+is_full_for d (refute_statement c ps k js) = nat_le question_limit (length d.questions)
 is_full_for d (later_statement n) = false
 is_full_for d (supers_statement n) = false
 is_full_for d (impl_statement ps h ks) = nat_le item_limit (if d.in_section then last_later d else last_items d)

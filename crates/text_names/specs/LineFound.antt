@@ -1,5 +1,5 @@
 -- What is found of a line.
-use Rattle.std.specs.Prelude.{◌≡◌, ℕ, List, [], map}
+use Rattle.std.specs.Prelude.{◌≡◌, ℕ, List, [], ◌∷◌, map, length}
 use Rattle.std.specs.List.{flat_map}
 use Rattle.text_language.specs.Promised.Syntax.{Line, prove_line, refute_line}
 use Rattle.text_language.specs.Uses.{crate_use}
@@ -11,17 +11,17 @@ use Rattle.text_names.specs.Machine.{Sight, findings}
 use Rattle.text_names.specs.Found.{IsFound}
 use Rattle.text_names.specs.declared.line.LineFound.{LineFound}
 
--- The types and bounds without those of the bound of a query.
+-- The types and bounds without those of the bounds of a query.
 abbrev pub other_parts : Line → List LinePart
-other_parts (prove_line c ps k ks) = flat_map clause_parts ks
-other_parts (refute_line c ps k) = []
+other_parts (prove_line c ps k bs ks) = flat_map clause_parts ks
+other_parts (refute_line c ps k bs) = []
 other_parts l = line_parts l
 
--- How many of its types and bounds, which come first, belong to the bound of a query.
-abbrev pub asked_count : Statement → ℕ
-asked_count (prove_statement c ps k ks) = 2
-asked_count (refute_statement c ps k) = 2
-asked_count s = 0
+-- How many bounds a query asks. Their types and bounds come first.
+abbrev pub asked_bounds : Statement → ℕ
+asked_bounds (prove_statement c ps k js ks) = length (k ∷ js)
+asked_bounds (refute_statement c ps k js) = length (k ∷ js)
+asked_bounds s = 0
 
 pub record IsLineFound (v : Sight) (l : Line) (found : LineFound) : Type 0 where
   pub crates : found.crates ≡ findings v (map crate_use (named_crates l))

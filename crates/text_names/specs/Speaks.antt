@@ -9,8 +9,8 @@ Speaks (crate_line n us) (crate_statement m vs) = n ≡ m
 Speaks (struct_line f n ps fs) (struct_statement g m qs ss) = (f ≡ g) × (n ≡ m) × (param_list ps ≡ qs)
 Speaks (trait_line f a n ps bs) (trait_statement g b m qs ss) = (f ≡ g) × (a ≡ b) × (n ≡ m) × (param_list ps ≡ qs)
 Speaks (impl_line ps h ks) (impl_statement qs i ss) = param_list ps ≡ qs
-Speaks (prove_line c ps k ks) (prove_statement b qs i ss) = (c ≡ b) × (param_list ps ≡ qs)
-Speaks (refute_line c ps k) (refute_statement b qs i) = (c ≡ b) × (param_list ps ≡ qs)
+Speaks (prove_line c ps k bs ks) (prove_statement b qs i js ss) = (c ≡ b) × (param_list ps ≡ qs)
+Speaks (refute_line c ps k bs) (refute_statement b qs i js) = (c ≡ b) × (param_list ps ≡ qs)
 Speaks (later_line n) (later_statement m) = n ≡ m
 Speaks (supers_line n) (supers_statement m) = n ≡ m
 Speaks _ _ = ⊥
@@ -18,8 +18,8 @@ Speaks _ _ = ⊥
 -- the crates that it names
 abbrev pub crates_mentioned : Statement → List (List ℕ)
 crates_mentioned (crate_statement n us) = us
-crates_mentioned (prove_statement c ps k ks) = c ∷ []
-crates_mentioned (refute_statement c ps k) = c ∷ []
+crates_mentioned (prove_statement c ps k js ks) = c ∷ []
+crates_mentioned (refute_statement c ps k js) = c ∷ []
 crates_mentioned (later_statement n) = n ∷ []
 crates_mentioned (supers_statement n) = n ∷ []
 crates_mentioned s = []

@@ -27,7 +27,7 @@ pub enum FaultKind {
     ForeignAuto,
     /// An impl of a trait that has built-in rules alone.
     BuiltIn,
-    /// A variable outside the bound of a query, or of two kinds.
+    /// A variable outside the bounds of a query, or of two kinds.
     StrayVariable,
     /// A `refute` line has parameters.
     RefutesParams,

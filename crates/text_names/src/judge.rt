@@ -74,7 +74,7 @@ fn is_trait(statement: &Statement<'_>) -> bool
     matches!(statement, Statement::Trait { .. })
 }
 
-/// Whether there is a variable outside the bound of a query, or one of two kinds.
+/// Whether there is a variable outside the bounds of a query, or one of two kinds.
 fn has_stray_variable(alloc: Global, found: &LineFound<'_>) -> Result<bool, AllocError>
     ensures { IfOk result (λ b. b ≡ (is_any (map variable_in found.now.others.variables.items)
         || have_two_kinds (map variable_in found.now.asked.variables.items))) }

@@ -25,7 +25,7 @@ const ITEM_LIMIT: usize = 65_535;
 
 const PARAM_LIMIT: usize = 64;
 
-/// Fields, bounds or where-clauses.
+/// Fields, bounds of a trait or a query, or where-clauses.
 const PART_LIMIT: usize = 64;
 
 /// The variables of a query.

@@ -5,7 +5,7 @@ ghost use Rattle.text_language.specs.Uses.{crate_use};
 ghost use Rattle.text_lines.specs.Views.{statement_of};
 ghost use Rattle.text_names.specs.Machine.{Sight, seen_items, findings, either};
 ghost use Rattle.text_names.specs.Speaks.{Speaks, crates_mentioned};
-ghost use Rattle.text_names.specs.LineFound.{asked_count, FindsLine};
+ghost use Rattle.text_names.specs.LineFound.{asked_bounds, FindsLine};
 
 use crate::findings::Findings;
 use crate::judge_use::crate_name;
@@ -19,7 +19,7 @@ use text_lines::{LineRead, Statement};
 pub struct LineFound<'a> {
     /// What is wrong with the crates that it names.
     pub crates: Findings,
-    /// What was found of the bound of a query.
+    /// What was found of the bounds of a query.
     pub asked: PartsFound<'a>,
     /// What was found of all other types and bounds.
     pub others: PartsFound<'a>,
@@ -65,13 +65,13 @@ fn named_crates<N: Names>(names: &N, statement: &Statement<'_>) -> Findings
     }
 }
 
-/// How many of a line's types and bounds belong to the bound of a query.
-fn asked_count(statement: &Statement<'_>) -> usize
-    ensures { result ≡ asked_count (statement_of statement.now) }
+/// How many bounds a query asks. In a line each has a type and a bound, and these come first.
+fn asked_bounds(statement: &Statement<'_>) -> usize
+    ensures { result ≡ asked_bounds (statement_of statement.now) }
 {
     match statement {
-        Statement::Prove { .. } => 2,
-        Statement::Refute { .. } => 2,
+        Statement::Prove { further, .. } => further.len() + 1,
+        Statement::Refute { further, .. } => further.len() + 1,
         _ => 0,
     }
 }
@@ -96,7 +96,9 @@ pub(crate) fn find_line<'a, N: Names>(
     ensures { IfOk result (λ found. FindsLine (N.sight names.now) read.now found) }
 {
     let parts = read.statement.parts(alloc)?;
-    let count = asked_count(&read.statement).min(parts.len());
+    let count = asked_bounds(&read.statement)
+        .saturating_mul(2)
+        .min(parts.len());
     let asked = find_parts(names, alloc, &read.cells, &parts[..count])?;
     let others = find_parts(names, alloc, &read.cells, &parts[count..])?;
     Ok(LineFound {

@@ -82,6 +82,7 @@ question-adds d e read how ps q asking same entry adds = λ l r.
       asks = ap asker_of same ∙ asking.2;
       names = sym (firsts-kept q.params.items) ∙ ap firsts entry.named;
       main = entry.asked l r;
+      further = entry.further l r;
       clauses = entry.clauses l r;
       found = sorted_params q.variables.items;
       variables = variables-kept q.variables.items;

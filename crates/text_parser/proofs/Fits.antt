@@ -103,12 +103,14 @@ parts-fit d (impl_line ps k ks) h =
     let us = bound_uses (with_own d l) k.bound ++ type_uses (with_own d l) [] of_type k.subject in
     let ws = flat_map (clause_uses (with_own d l)) ks in
     (header-fits d l k (first-fit d l us ws h), each-fit d l (clause_uses (with_own d l)) (ClauseFits d l) (clause-fits d l) ks (last-fit d l us ws h))
-parts-fit d (prove_line c ps k ks) h =
-    let l = prove_line c ps k ks in
-    let us = clause_uses (with_own d l) k in
+parts-fit d (prove_line c ps k bs ks) h =
+    let l = prove_line c ps k bs ks in
+    let us = flat_map (clause_uses (with_own d l)) (k ∷ bs) in
     let ws = flat_map (clause_uses (with_own d l)) ks in
-    (clause-fits d l k (first-fit d l us ws h.1), each-fit d l (clause_uses (with_own d l)) (ClauseFits d l) (clause-fits d l) ks (last-fit d l us ws h.1))
-parts-fit d (refute_line c ps k) h = clause-fits d (refute_line c ps k) k h.1
+    let all-fit = each-fit d l (clause_uses (with_own d l)) (ClauseFits d l) (clause-fits d l) in
+    (all-fit (k ∷ bs) (first-fit d l us ws h.1), all-fit ks (last-fit d l us ws h.1))
+parts-fit d (refute_line c ps k bs) h =
+    let l = refute_line c ps k bs in each-fit d l (clause_uses (with_own d l)) (ClauseFits d l) (clause-fits d l) (k ∷ bs) h.1
 parts-fit d (later_line n) h = tt
 parts-fit d (supers_line n) h = tt
 
@@ -169,7 +171,7 @@ numbers-fit d l i f = by l
     by (struct_line g n ps fs) = known-fit (with_own d (struct_line g n ps fs)) (every-push (λ s. s.item.name < MAX_INDEX) d.structs (own_struct d g n ps) structs (omega (arith, f.few_structs))) traits
     by (trait_line g a n ps bs) = known-fit (with_own d (trait_line g a n ps bs)) structs (every-push (λ t. t.item.name < MAX_INDEX) d.traits (own_trait d g a n ps) traits (omega (arith, f.few_traits)))
     by (impl_line ps k ks) = known-fit d structs traits
-    by (prove_line c ps k ks) = known-fit d structs traits
-    by (refute_line c ps k) = known-fit d structs traits
+    by (prove_line c ps k bs ks) = known-fit d structs traits
+    by (refute_line c ps k bs) = known-fit d structs traits
     by (later_line n) = known-fit d structs traits
     by (supers_line n) = known-fit d structs traits

@@ -1,8 +1,9 @@
 -- The types and references of a line that was read stand for those of whichever line it was.
-use Rattle.std.proofs.Common.{◌≡◌, ℕ, ◌≤◌, Bool, true, false, List, [], ◌∷◌, ◌++◌, length, map, take, drop, None, refl, sym, ap, ◌∙◌, subst, arith}
+use Rattle.std.proofs.Common.{◌≡◌, ℕ, zero, suc, ◌*◌, ◌≤◌, Bool, true, false, List, [], ◌∷◌, ◌++◌, length, map, take, drop, None, refl, sym, ap, ◌∙◌, subst, arith}
 use Rattle.std.specs.List.{flat_map}
 use Rattle.std.specs.Prelude.{min}
 use Rattle.std.proofs.lemmas.List.{length-map}
+use Rattle.std.proofs.lemmas.Option.{same_Some}
 use Rattle.type_terms.specs.Promised.Label.{Label, Sort, of_type, param, placeholder}
 use Rattle.type_terms.specs.Promised.Trees.{leaf}
 use Rattle.text_language.specs.Promised.Syntax.{Params, Clause, Line, struct_line, trait_line, impl_line, prove_line, refute_line}
@@ -26,7 +27,7 @@ use Rattle.text_lines.specs.declared.statement.LineRead.{LineRead}
 use Rattle.text_names.proofs.LineTests.{asked-variables}
 use Rattle.text_names.proofs.Splitting.{read-split}
 use Rattle.text_names.specs.Found.{Resolves}
-use Rattle.text_names.specs.LineFound.{other_parts, asked_count, IsLineFound}
+use Rattle.text_names.specs.LineFound.{other_parts, asked_bounds, IsLineFound}
 use Rattle.text_names.specs.Machine.{Sight, seen_items, params}
 use Rattle.text_names.specs.Views.{variable_in}
 use Rattle.text_names.specs.declared.line.LineFound.{LineFound}
@@ -46,7 +47,7 @@ use Rattle.text_tables.specs.TermCells.{trees_of}
 use Rattle.text_tables.specs.Views.{cells_of, reference_of}
 use Rattle.text_tables.specs.declared.cell.TermCell.{TermCell}
 use Rattle.text_tables.specs.declared.declared.ReferenceCells.{ReferenceCells}
-use Rattle.text_parser.specs.Entries.{AreFields, AreBoundsOfLine, IsMain, AreClauses, AreVariables, IsStruct, IsTrait, IsImpl, AsksQuestion}
+use Rattle.text_parser.specs.Entries.{AreFields, AreBoundsOfLine, IsMain, AreFurther, AreClauses, AreVariables, IsStruct, IsTrait, IsImpl, AsksQuestion}
 use Rattle.text_parser.specs.Sights.{IsSightOfRead}
 
 pub sight-of : (d : Declarations) (read : LineRead) (v : Sight) (l : Line) → IsSightOfRead d read v → ReadsLine l read → IsSightOf v l
@@ -84,7 +85,7 @@ pub line-known : (d : Declarations) (read : LineRead) (v : Sight) (found : LineF
 line-known d read v found s f short finds l r =
     let is : IsLineFound v l found = subst (λ x. IsLineFound x l found) (sym (same-sight d read v s)) (finds l r) in
     let at = places_in (statement_of read.statement) in
-    let count = min (asked_count (statement_of read.statement)) (length at) in
+    let count = min (2 * asked_bounds (statement_of read.statement)) (length at) in
     let split = read-split l read count at r refl refl in
     record {
       before = s.before;
@@ -185,42 +186,57 @@ pub variables-are : (d : Declarations) (read : LineRead) (v : Sight) (found : Li
     → map variable_in vs ≡ once (map variable_in found.asked.variables.items) → (l : Line) → ReadsLine l read → AreVariables d l (map variable_in vs)
 variables-are d read v found vs s none short finds is l r = is ∙ ap once (line-known d read v found s none short finds l r).variables
 
-asked-two : (v : Sight) (k : Clause) (rs : List ResolvedPart) → EachOf (IsReadAs v) (clause_parts k) rs → length rs ≡ 2
-asked-two v k [] st = absurd st
-asked-two v k (x ∷ []) st = absurd st.1
-asked-two v k (x ∷ y ∷ []) st = refl
-asked-two v k (x ∷ y ∷ z ∷ rs) st = absurd st.1.1
+asked-two : (v : Sight) (k : Clause) (bs : List Clause) (rs : List ResolvedPart) → EachOf (IsReadAs v) (flat_map clause_parts (k ∷ bs)) rs → 2 ≤ length rs
+asked-two v k bs [] st = absurd st
+asked-two v k bs (x ∷ []) st = absurd st.1
+asked-two v k bs (x ∷ y ∷ rs) st = omega arith
 
--- what is asked is its subject, and then its bound
-pub asked-there : (d : Declarations) (read : LineRead) (v : Sight) (l : Line) (found : LineFound) (b : Bool) (c : List ℕ) (ps : List said.Param) → Known d read v l found → AsksQuestion (line_statement l) b c ps → length found.asked.parts.items ≡ 2
-asked-there d read v (prove_line a qs k ks) found false c ps known asks = asked-two v k found.asked.parts.items known.asked
-asked-there d read v (refute_line a qs k) found true c ps known asks = asked-two v k found.asked.parts.items known.asked
+-- what is asked first is its subject, and then its bound
+pub asked-there : (d : Declarations) (read : LineRead) (v : Sight) (l : Line) (found : LineFound) (b : Bool) (c : List ℕ) (ps : List said.Param) → Known d read v l found → AsksQuestion (line_statement l) b c ps → 2 ≤ length found.asked.parts.items
+asked-there d read v (prove_line a qs k bs ks) found false c ps known asks = asked-two v k bs found.asked.parts.items known.asked
+asked-there d read v (refute_line a qs k bs) found true c ps known asks = asked-two v k bs found.asked.parts.items known.asked
 asked-there d read v l found b c ps known asks = absurd asks
 
 asked-at : (d : Declarations) (read : LineRead) (v : Sight) (l : Line) (found : LineFound) (q : Bool) (c : List ℕ) (ps : List said.Param) (s b : ResolvedPart) (rest : List ResolvedPart) (vs : Bor (List Variable)) (out : ReferenceCells) → Known d read v l found
     → AsksQuestion (line_statement l) q c ps → AreVariables d l (map variable_in vs.now) → found.asked.parts.items ≡ s ∷ b ∷ rest → MeansClause v (Question vs) s b out → IsMain d l (reference_of out) × ReferenceMade out
-asked-at d read v (prove_line a qs k ks) found false c ps s b rest vs out known asks are same means =
-    let l = prove_line a qs k ks in
-    let fits = (faultless-parts v.before l (fits-line d read v l found known)).0 in
-    let st : EachOf (IsReadAs v) (clause_parts k) (s ∷ b ∷ rest) = subst (EachOf (IsReadAs v) (clause_parts k)) same known.asked in
+asked-at d read v (prove_line a qs k bs ks) found false c ps s b rest vs out known asks are same means =
+    let l = prove_line a qs k bs ks in
+    let fits = (faultless-parts v.before l (fits-line d read v l found known)).0.0 in
+    let st : EachOf (IsReadAs v) (flat_map clause_parts (k ∷ bs)) (s ∷ b ∷ rest) = subst (EachOf (IsReadAs v) (flat_map clause_parts (k ∷ bs))) same known.asked in
     let w = means l k known.sight st.0 st.1.0 fits in
     (w.0 ∙ ap (λ e. clause_reference e k) (question-means d v l vs known.items_are known.params_are are), w.1)
-asked-at d read v (refute_line a qs k) found true c ps s b rest vs out known asks are same means =
-    let l = refute_line a qs k in
-    let fits = faultless-parts v.before l (fits-line d read v l found known) in
-    let st : EachOf (IsReadAs v) (clause_parts k) (s ∷ b ∷ rest) = subst (EachOf (IsReadAs v) (clause_parts k)) same known.asked in
+asked-at d read v (refute_line a qs k bs) found true c ps s b rest vs out known asks are same means =
+    let l = refute_line a qs k bs in
+    let fits = (faultless-parts v.before l (fits-line d read v l found known)).0 in
+    let st : EachOf (IsReadAs v) (flat_map clause_parts (k ∷ bs)) (s ∷ b ∷ rest) = subst (EachOf (IsReadAs v) (flat_map clause_parts (k ∷ bs))) same known.asked in
     let w = means l k known.sight st.0 st.1.0 fits in
     (w.0 ∙ ap (λ e. clause_reference e k) (question-means d v l vs known.items_are known.params_are are), w.1)
 asked-at d read v l found q c ps s b rest vs out known asks are same means = absurd asks
 
+further-at : (d : Declarations) (read : LineRead) (v : Sight) (l : Line) (found : LineFound) (q : Bool) (c : List ℕ) (ps : List said.Param) (s b : ResolvedPart) (rest : List ResolvedPart) (vs : Bor (List Variable)) (out : List ReferenceCells) → Known d read v l found
+    → AsksQuestion (line_statement l) q c ps → AreVariables d l (map variable_in vs.now) → found.asked.parts.items ≡ s ∷ b ∷ rest → MeansClauses v (Question vs) rest out → AreFurther d l (map reference_of out) × ReferencesMade out
+further-at d read v (prove_line a qs k bs ks) found false c ps s b rest vs out known asks are same means =
+    let l = prove_line a qs k bs ks in
+    let fits = (faultless-parts v.before l (fits-line d read v l found known)).0.1 in
+    let st : EachOf (IsReadAs v) (flat_map clause_parts (k ∷ bs)) (s ∷ b ∷ rest) = subst (EachOf (IsReadAs v) (flat_map clause_parts (k ∷ bs))) same known.asked in
+    let w = means l bs known.sight st.1.1 fits in
+    (w.0 ∙ ap (λ e. map (clause_reference e) bs) (question-means d v l vs known.items_are known.params_are are), w.1)
+further-at d read v (refute_line a qs k bs) found true c ps s b rest vs out known asks are same means =
+    let l = refute_line a qs k bs in
+    let fits = (faultless-parts v.before l (fits-line d read v l found known)).1 in
+    let st : EachOf (IsReadAs v) (flat_map clause_parts (k ∷ bs)) (s ∷ b ∷ rest) = subst (EachOf (IsReadAs v) (flat_map clause_parts (k ∷ bs))) same known.asked in
+    let w = means l bs known.sight st.1.1 fits in
+    (w.0 ∙ ap (λ e. map (clause_reference e) bs) (question-means d v l vs known.items_are known.params_are are), w.1)
+further-at d read v l found q c ps s b rest vs out known asks are same means = absurd asks
+
 given-at : (d : Declarations) (read : LineRead) (v : Sight) (l : Line) (found : LineFound) (q : Bool) (c : List ℕ) (ps : List said.Param) (vs : Bor (List Variable)) (out : List ReferenceCells) → Known d read v l found
     → AsksQuestion (line_statement l) q c ps → AreVariables d l (map variable_in vs.now) → MeansClauses v (Question vs) found.others.parts.items out → AreClauses d l (map reference_of out) × ReferencesMade out
-given-at d read v (prove_line a qs k ks) found false c ps vs out known asks are means =
-    let l = prove_line a qs k ks in
+given-at d read v (prove_line a qs k bs ks) found false c ps vs out known asks are means =
+    let l = prove_line a qs k bs ks in
     let fits = (faultless-parts v.before l (fits-line d read v l found known)).1 in
     let w = means l ks known.sight known.others fits in
     (w.0 ∙ ap (λ e. map (clause_reference e) ks) (question-means d v l vs known.items_are known.params_are are), w.1)
-given-at d read v (refute_line a qs k) found true c ps vs out known asks are means = means (refute_line a qs k) [] known.sight known.others tt
+given-at d read v (refute_line a qs k bs) found true c ps vs out known asks are means = means (refute_line a qs k bs) [] known.sight known.others tt
 given-at d read v l found q c ps vs out known asks are means = absurd asks
 
 pub asked-is : (d : Declarations) (read : LineRead) (v : Sight) (found : LineFound) (q : Bool) (c : List ℕ) (ps : List said.Param) (s b : ResolvedPart) (rest : List ResolvedPart) (vs : Bor (List Variable)) (out : ReferenceCells) → IsSightOfRead d read v → IsFaultless d read
@@ -230,12 +246,23 @@ asked-is d read v found q c ps s b rest vs out sight none short finds asks is sa
     asked-at d read v l found q c ps s b rest vs out (line-known d read v found sight none short finds l r) (subst (λ x. AsksQuestion x q c ps) r.0 asks)
     (variables-are d read v found vs.now sight none short finds is l r) same means
 
+pub further-are : (d : Declarations) (read : LineRead) (v : Sight) (found : LineFound) (q : Bool) (c : List ℕ) (ps : List said.Param) (s b : ResolvedPart) (rest : List ResolvedPart) (vs : Bor (List Variable)) (out : List ReferenceCells) → IsSightOfRead d read v → IsFaultless d read
+    → length read.cells.items ≤ 67108864 → IsFoundOf d read found → AsksQuestion (statement_of read.statement) q c ps → map variable_in vs.now ≡ once (map variable_in found.asked.variables.items) → found.asked.parts.items ≡ s ∷ b ∷ rest
+    → MeansClauses v (Question vs) rest out → (l : Line) → ReadsLine l read → AreFurther d l (map reference_of out) × ReferencesMade out
+further-are d read v found q c ps s b rest vs out sight none short finds asks is same means l r =
+    further-at d read v l found q c ps s b rest vs out (line-known d read v found sight none short finds l r) (subst (λ x. AsksQuestion x q c ps) r.0 asks)
+    (variables-are d read v found vs.now sight none short finds is l r) same means
+
 pub given-are : (d : Declarations) (read : LineRead) (v : Sight) (found : LineFound) (q : Bool) (c : List ℕ) (ps : List said.Param) (vs : Bor (List Variable)) (out : List ReferenceCells) → IsSightOfRead d read v → IsFaultless d read
     → length read.cells.items ≤ 67108864 → IsFoundOf d read found → AsksQuestion (statement_of read.statement) q c ps → map variable_in vs.now ≡ once (map variable_in found.asked.variables.items)
     → MeansClauses v (Question vs) found.others.parts.items out → (l : Line) → ReadsLine l read → AreClauses d l (map reference_of out) × ReferencesMade out
 given-are d read v found q c ps vs out sight none short finds asks is means l r =
     given-at d read v l found q c ps vs out (line-known d read v found sight none short finds l r) (subst (λ x. AsksQuestion x q c ps) r.0 asks)
     (variables-are d read v found vs.now sight none short finds is l r) means
+
+pub made-onto : (r : ReferenceCells) (rs : List ReferenceCells) → ReferenceMade r → ReferencesMade rs → ReferencesMade (r ∷ rs)
+made-onto r rs h g zero x e = subst ReferenceMade (same_Some r x e) h
+made-onto r rs h g (suc k) x e = g k x e
 
 -- ---- what is needed of numbers
 ready : (d : Declarations) (read : LineRead) (v : Sight) (n : Numbering) → IsNumbered d → IsFew d 67108928 → IsSightOfRead d read v → IsFaultless d read → NumberingFits n → HasSmallNumbers v n

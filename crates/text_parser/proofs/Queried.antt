@@ -28,8 +28,8 @@ no-fault d read h = λ l r. sym (h.1 l r)
 
 -- ---- a question
 question-added : (d : Declarations) (q : Question) (l : Line) → IsWrittenQuestion d q l → with_question d q ≡ added d l
-question-added d q (prove_line c ps a ks) h = ap (with_question d) h
-question-added d q (refute_line c ps a) h = ap (with_question d) h
+question-added d q (prove_line c ps a bs ks) h = ap (with_question d) h
+question-added d q (refute_line c ps a bs) h = ap (with_question d) h
 question-added d q _ h = absurd h
 
 pub asks-this : (d : Declarations) (read : LineRead) (how : Asked) (ps : List Param) (q : QuestionEntry)

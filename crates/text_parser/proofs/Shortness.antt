@@ -252,19 +252,28 @@ line-few (impl_line ps h ks) =
     (after-few (params_spelling ps) (bound_spelling h.bound ++ rest) [] z
     (both-few (bound_spelling h.bound) rest [] x z (bound-few h.bound [])
     (one-more (keyword for_word) (type_spelling h.subject ++ more) x z (both-few (type_spelling h.subject) more x y z (type-few h.subject x) (clauses-few ks y)))))
-line-few (prove_line c ps k ks) =
+line-few (prove_line c ps k bs ks) =
     let x = clause_onto k [] in
-    let y = all_onto clause_onto ks x in
+    let y = all_onto clause_onto bs x in
+    let z = all_onto clause_onto ks y in
+    let others = behind comma (map clause_spelling bs) in
     let more = where_spelling (map clause_spelling ks) in
-    let rest = params_spelling ps ++ (clause_spelling k ++ more) in
-    one-more (keyword prove_word) (keyword in_word ∷ name c ∷ rest) [] y
-    (one-more (keyword in_word) (name c ∷ rest) [] y
-    (one-more (name c) rest [] y (after-few (params_spelling ps) (clause_spelling k ++ more) [] y (both-few (clause_spelling k) more [] x y (clause-few k []) (clauses-few ks x)))))
-line-few (refute_line c ps k) =
+    let asked = clause_spelling k ++ (others ++ more) in
+    let rest = params_spelling ps ++ asked in
+    one-more (keyword prove_word) (keyword in_word ∷ name c ∷ rest) [] z
+    (one-more (keyword in_word) (name c ∷ rest) [] z
+    (one-more (name c) rest [] z
+    (after-few (params_spelling ps) asked [] z
+    (both-few (clause_spelling k) (others ++ more) [] x z (clause-few k []) (both-few others more x y z (behind-few comma clause_onto clause_spelling clause-few bs x) (clauses-few ks y))))))
+line-few (refute_line c ps k bs) =
     let x = clause_onto k [] in
-    let rest = params_spelling ps ++ clause_spelling k in
-    one-more (keyword refute_word) (keyword in_word ∷ name c ∷ rest) [] x
-    (one-more (keyword in_word) (name c ∷ rest) [] x (one-more (name c) rest [] x (after-few (params_spelling ps) (clause_spelling k) [] x (clause-few k []))))
+    let y = all_onto clause_onto bs x in
+    let others = behind comma (map clause_spelling bs) in
+    let asked = clause_spelling k ++ others in
+    let rest = params_spelling ps ++ asked in
+    one-more (keyword refute_word) (keyword in_word ∷ name c ∷ rest) [] y
+    (one-more (keyword in_word) (name c ∷ rest) [] y
+    (one-more (name c) rest [] y (after-few (params_spelling ps) asked [] y (both-few (clause_spelling k) others [] x y (clause-few k []) (behind-few comma clause_onto clause_spelling clause-few bs x)))))
 line-few (later_line n) = omega arith
 line-few (supers_line n) = omega arith
 

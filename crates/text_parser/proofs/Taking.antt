@@ -86,8 +86,8 @@ added-few d (crate_line n us) k f = record { few_crates = simp length-append (om
 added-few d (struct_line f n ps fs) k w = record { few_crates = omega (arith, w.few_crates); few_structs = simp length-append (omega (arith, w.few_structs)); few_traits = omega (arith, w.few_traits); few_impls = omega (arith, w.few_impls); few_questions = omega (arith, w.few_questions); few_sections = omega (arith, w.few_sections); few_later = omega (arith, w.few_later) }
 added-few d (trait_line f a n ps bs) k w = record { few_crates = omega (arith, w.few_crates); few_structs = omega (arith, w.few_structs); few_traits = simp length-append (omega (arith, w.few_traits)); few_impls = omega (arith, w.few_impls); few_questions = omega (arith, w.few_questions); few_sections = omega (arith, w.few_sections); few_later = omega (arith, w.few_later) }
 added-few d (impl_line ps h ks) k w = impl-few d (impl_of d (item_meanings d (impl_line ps h ks) 0) ps h ks) k w
-added-few d (prove_line c ps a ks) k w = record { few_crates = omega (arith, w.few_crates); few_structs = omega (arith, w.few_structs); few_traits = omega (arith, w.few_traits); few_impls = omega (arith, w.few_impls); few_questions = simp length-append (omega (arith, w.few_questions)); few_sections = omega (arith, w.few_sections); few_later = omega (arith, w.few_later) }
-added-few d (refute_line c ps a) k w = record { few_crates = omega (arith, w.few_crates); few_structs = omega (arith, w.few_structs); few_traits = omega (arith, w.few_traits); few_impls = omega (arith, w.few_impls); few_questions = simp length-append (omega (arith, w.few_questions)); few_sections = omega (arith, w.few_sections); few_later = omega (arith, w.few_later) }
+added-few d (prove_line c ps a bs ks) k w = record { few_crates = omega (arith, w.few_crates); few_structs = omega (arith, w.few_structs); few_traits = omega (arith, w.few_traits); few_impls = omega (arith, w.few_impls); few_questions = simp length-append (omega (arith, w.few_questions)); few_sections = omega (arith, w.few_sections); few_later = omega (arith, w.few_later) }
+added-few d (refute_line c ps a bs) k w = record { few_crates = omega (arith, w.few_crates); few_structs = omega (arith, w.few_structs); few_traits = omega (arith, w.few_traits); few_impls = omega (arith, w.few_impls); few_questions = simp length-append (omega (arith, w.few_questions)); few_sections = omega (arith, w.few_sections); few_later = omega (arith, w.few_later) }
 added-few d (later_line n) k w = record { few_crates = omega (arith, w.few_crates); few_structs = omega (arith, w.few_structs); few_traits = omega (arith, w.few_traits); few_impls = omega (arith, w.few_impls); few_questions = omega (arith, w.few_questions); few_sections = simp length-append (omega (arith, w.few_sections)); few_later = omega (arith, w.few_later) }
 added-few d (supers_line n) k w = record { few_crates = omega (arith, w.few_crates); few_structs = omega (arith, w.few_structs); few_traits = omega (arith, w.few_traits); few_impls = omega (arith, w.few_impls); few_questions = omega (arith, w.few_questions); few_sections = omega (arith, w.few_sections); few_later = omega (arith, w.few_later) }
 

@@ -15,7 +15,7 @@ use Rattle.text_tables.specs.declared.declared.Param as kept
 use Rattle.text_tables.specs.Views.{param_names, sorted_params, variable_of}
 use Rattle.text_tables.specs.Parts.{IsStructLine, IsTraitLine, IsImplLine, IsWrittenQuestion}
 use Rattle.text_parser.specs.BareLines.{sort_of_param, sorted_param}
-use Rattle.text_parser.specs.Entries.{AreFields, AreBoundsOfLine, IsMain, AreClauses, AreVariables, AsksQuestion}
+use Rattle.text_parser.specs.Entries.{AreFields, AreBoundsOfLine, IsMain, AreFurther, AreClauses, AreVariables, AsksQuestion}
 use Rattle.text_parser.proofs.Ordering.{kinds-said}
 
 -- ---- a line with the statement of a struct is the line of a struct, and so on
@@ -27,8 +27,8 @@ struct-line d f n ps ss kinds fields (struct_line g m qs fs) e k h =
 struct-line d f n ps ss kinds fields (crate_line m us) e k h = absurd cc
 struct-line d f n ps ss kinds fields (trait_line g a m qs bs) e k h = absurd cc
 struct-line d f n ps ss kinds fields (impl_line qs i ks) e k h = absurd cc
-struct-line d f n ps ss kinds fields (prove_line c qs a ks) e k h = absurd cc
-struct-line d f n ps ss kinds fields (refute_line c qs a) e k h = absurd cc
+struct-line d f n ps ss kinds fields (prove_line c qs a bs ks) e k h = absurd cc
+struct-line d f n ps ss kinds fields (refute_line c qs a bs) e k h = absurd cc
 struct-line d f n ps ss kinds fields (later_line c) e k h = absurd cc
 struct-line d f n ps ss kinds fields (supers_line c) e k h = absurd cc
 
@@ -39,8 +39,8 @@ trait-line d f a n ps ss kinds bounds (trait_line g b m qs bs) e k h =
 trait-line d f a n ps ss kinds bounds (crate_line m us) e k h = absurd cc
 trait-line d f a n ps ss kinds bounds (struct_line g m qs fs) e k h = absurd cc
 trait-line d f a n ps ss kinds bounds (impl_line qs i ks) e k h = absurd cc
-trait-line d f a n ps ss kinds bounds (prove_line c qs b ks) e k h = absurd cc
-trait-line d f a n ps ss kinds bounds (refute_line c qs b) e k h = absurd cc
+trait-line d f a n ps ss kinds bounds (prove_line c qs b hs ks) e k h = absurd cc
+trait-line d f a n ps ss kinds bounds (refute_line c qs b hs) e k h = absurd cc
 trait-line d f a n ps ss kinds bounds (later_line c) e k h = absurd cc
 trait-line d f a n ps ss kinds bounds (supers_line c) e k h = absurd cc
 
@@ -90,18 +90,19 @@ variables-kept [] = refl
 variables-kept (p ∷ ps) = ap (λ x. variable_of p ∷ x) (variables-kept ps)
 
 -- ---- questions
-made : Bool → ℕ → List (List ℕ) → Reference → List Reference → List Variable → Question
-made b a ps r cs vs = record { is_refute = b; asker = a; params = ps; asked = r; clauses = cs; variables = vs }
+made : Bool → ℕ → List (List ℕ) → Reference → List Reference → List Reference → List Variable → Question
+made b a ps r rs cs vs = record { is_refute = b; asker = a; params = ps; asked = r; further = rs; clauses = cs; variables = vs }
 
-same-question : (q r : Question) → q.is_refute ≡ r.is_refute → q.asker ≡ r.asker → q.params ≡ r.params → q.asked ≡ r.asked → q.clauses ≡ r.clauses → q.variables ≡ r.variables → q ≡ r
+same-question : (q r : Question) → q.is_refute ≡ r.is_refute → q.asker ≡ r.asker → q.params ≡ r.params → q.asked ≡ r.asked → q.further ≡ r.further → q.clauses ≡ r.clauses → q.variables ≡ r.variables → q ≡ r
 unfolding made
-same-question q r a b c d e f =
-    ap (λ x. made x q.asker q.params q.asked q.clauses q.variables) a
-    ∙ ap (λ x. made r.is_refute x q.params q.asked q.clauses q.variables) b
-    ∙ ap (λ x. made r.is_refute r.asker x q.asked q.clauses q.variables) c
-    ∙ ap (λ x. made r.is_refute r.asker r.params x q.clauses q.variables) d
-    ∙ ap (λ x. made r.is_refute r.asker r.params r.asked x q.variables) e
-    ∙ ap (λ x. made r.is_refute r.asker r.params r.asked r.clauses x) f
+same-question q r a b c d e f g =
+    ap (λ x. made x q.asker q.params q.asked q.further q.clauses q.variables) a
+    ∙ ap (λ x. made r.is_refute x q.params q.asked q.further q.clauses q.variables) b
+    ∙ ap (λ x. made r.is_refute r.asker x q.asked q.further q.clauses q.variables) c
+    ∙ ap (λ x. made r.is_refute r.asker r.params x q.further q.clauses q.variables) d
+    ∙ ap (λ x. made r.is_refute r.asker r.params r.asked x q.clauses q.variables) e
+    ∙ ap (λ x. made r.is_refute r.asker r.params r.asked r.further x q.variables) f
+    ∙ ap (λ x. made r.is_refute r.asker r.params r.asked r.further r.clauses x) g
 
 -- the entry has what the line says, parameters and variables by their names and sorts
 pub record Says (d : Declarations) (is_refute : Bool) (asker : List ℕ) (params : List Param) (q : Question) (l : Line) : Type 0 where
@@ -109,6 +110,7 @@ pub record Says (d : Declarations) (is_refute : Bool) (asker : List ℕ) (params
   pub asks : q.asker ≡ crate_number (known d asker)
   pub names : q.params ≡ firsts (map sorted_param params)
   pub main : IsMain d l q.asked
+  pub further : AreFurther d l q.further
   pub clauses : AreClauses d l q.clauses
   pub found : List (List ℕ × Sort)
   pub variables : q.variables ≡ map as_variable found
@@ -119,12 +121,12 @@ params-as ps qs e = ap (λ x. firsts (map sorted_param x)) e ∙ ap firsts (name
 
 asked-line : (d : Declarations) (l : Line) (b : Bool) (c : List ℕ) (ps : List Param) (q : Question)
     → AsksQuestion (line_statement l) b c ps → Says d b c ps q l → IsWrittenQuestion d q l
-asked-line d (prove_line a qs j js) false c ps q h s =
-    same-question q (question_of d (question_meanings d (prove_line a qs j js)) false a qs j js)
-    s.refutes (s.asks ∙ ap (λ n. crate_number (known d n)) (sym h.0)) (s.names ∙ params-as ps qs (sym h.1)) s.main s.clauses (s.variables ∙ ap (map as_variable) s.are)
-asked-line d (refute_line a qs j) true c ps q h s =
-    same-question q (question_of d (question_meanings d (refute_line a qs j)) true a qs j [])
-    s.refutes (s.asks ∙ ap (λ n. crate_number (known d n)) (sym h.0)) (s.names ∙ params-as ps qs (sym h.1)) s.main s.clauses (s.variables ∙ ap (map as_variable) s.are)
+asked-line d (prove_line a qs j bs js) false c ps q h s =
+    same-question q (question_of d (question_meanings d (prove_line a qs j bs js)) false a qs j bs js)
+    s.refutes (s.asks ∙ ap (λ n. crate_number (known d n)) (sym h.0)) (s.names ∙ params-as ps qs (sym h.1)) s.main s.further s.clauses (s.variables ∙ ap (map as_variable) s.are)
+asked-line d (refute_line a qs j bs) true c ps q h s =
+    same-question q (question_of d (question_meanings d (refute_line a qs j bs)) true a qs j bs [])
+    s.refutes (s.asks ∙ ap (λ n. crate_number (known d n)) (sym h.0)) (s.names ∙ params-as ps qs (sym h.1)) s.main s.further s.clauses (s.variables ∙ ap (map as_variable) s.are)
 asked-line d l b c ps q h s = absurd h
 
 pub question-line : (d : Declarations) (s : Statement) (b : Bool) (c : List ℕ) (ps : List Param) (q : Question) (l : Line)
@@ -139,7 +141,7 @@ impl-line d ps k ks params header clauses (impl_line qs h js) e p m g =
 impl-line d ps k ks params header clauses (crate_line n us) e p m g = absurd cc
 impl-line d ps k ks params header clauses (struct_line f n qs fs) e p m g = absurd cc
 impl-line d ps k ks params header clauses (trait_line f a n qs bs) e p m g = absurd cc
-impl-line d ps k ks params header clauses (prove_line b qs a js) e p m g = absurd cc
-impl-line d ps k ks params header clauses (refute_line b qs a) e p m g = absurd cc
+impl-line d ps k ks params header clauses (prove_line b qs a bs js) e p m g = absurd cc
+impl-line d ps k ks params header clauses (refute_line b qs a bs) e p m g = absurd cc
 impl-line d ps k ks params header clauses (later_line b) e p m g = absurd cc
 impl-line d ps k ks params header clauses (supers_line b) e p m g = absurd cc

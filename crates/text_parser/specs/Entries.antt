@@ -28,18 +28,24 @@ abbrev pub AreBoundsOfLine : Declarations → Line → List Reference → Type 0
 AreBoundsOfLine d (trait_line f a n ps bs) bounds = bounds ≡ map (bound_with_self (item_meanings d (trait_line f a n ps bs) 1) (leaf (param of_type 0))) bs
 AreBoundsOfLine d _ bounds = Unit {0}
 
--- The header of an impl, or the bound of a query.
+-- The header of an impl, or the first bound of a query.
 abbrev pub IsMain : Declarations → Line → Reference → Type 0
 IsMain d (impl_line ps h ks) r = r ≡ clause_reference (item_meanings d (impl_line ps h ks) 0) h
-IsMain d (prove_line c ps a ks) r = r ≡ clause_reference (question_meanings d (prove_line c ps a ks)) a
-IsMain d (refute_line c ps a) r = r ≡ clause_reference (question_meanings d (refute_line c ps a)) a
+IsMain d (prove_line c ps a bs ks) r = r ≡ clause_reference (question_meanings d (prove_line c ps a bs ks)) a
+IsMain d (refute_line c ps a bs) r = r ≡ clause_reference (question_meanings d (refute_line c ps a bs)) a
 IsMain d _ r = Unit {0}
+
+-- The bounds of a query after the first.
+abbrev pub AreFurther : Declarations → Line → List Reference → Type 0
+AreFurther d (prove_line c ps a bs ks) rs = rs ≡ map (clause_reference (question_meanings d (prove_line c ps a bs ks))) bs
+AreFurther d (refute_line c ps a bs) rs = rs ≡ map (clause_reference (question_meanings d (refute_line c ps a bs))) bs
+AreFurther d _ rs = Unit {0}
 
 -- The where-clauses of an impl or of a query.
 abbrev pub AreClauses : Declarations → Line → List Reference → Type 0
 AreClauses d (impl_line ps h ks) rs = rs ≡ map (clause_reference (item_meanings d (impl_line ps h ks) 0)) ks
-AreClauses d (prove_line c ps a ks) rs = rs ≡ map (clause_reference (question_meanings d (prove_line c ps a ks))) ks
-AreClauses d (refute_line c ps a) rs = rs ≡ []
+AreClauses d (prove_line c ps a bs ks) rs = rs ≡ map (clause_reference (question_meanings d (prove_line c ps a bs ks))) ks
+AreClauses d (refute_line c ps a bs) rs = rs ≡ []
 AreClauses d _ rs = Unit {0}
 
 -- the variables of a query, each once
@@ -77,8 +83,8 @@ IsImpl _ = ⊥
 
 -- The statement is a query of this kind, of this crate, with these parameters.
 abbrev pub AsksQuestion : Statement → (is_refute : Bool) → (asker : List ℕ) → List Param → Type 0
-AsksQuestion (prove_statement c ps k ks) false a qs = (c ≡ a) × (ps ≡ qs)
-AsksQuestion (refute_statement c ps k) true a qs = (c ≡ a) × (ps ≡ qs)
+AsksQuestion (prove_statement c ps k js ks) false a qs = (c ≡ a) × (ps ≡ qs)
+AsksQuestion (refute_statement c ps k js) true a qs = (c ≡ a) × (ps ≡ qs)
 AsksQuestion _ _ a qs = ⊥
 
 -- And the crate has this number.
@@ -89,5 +95,6 @@ IsAsking d s how ps = (c : List ℕ) × AsksQuestion s (is_refute how) c ps × (
 pub record IsQuestionEntry (d : Declarations) (params : List Param) (read : LineRead) (q : QuestionEntry) : Type 0 where
   pub named : sorted_params q.params.items ≡ map sorted_param params
   pub asked : OfRead read (λ l. IsMain d l (reference_of q.asked))
+  pub further : OfRead read (λ l. AreFurther d l (map reference_of q.further.items))
   pub clauses : OfRead read (λ l. AreClauses d l (map reference_of q.clauses.items))
   pub variables : OfRead read (λ l. AreVariables d l (sorted_params q.variables.items))

@@ -27,8 +27,8 @@ LineFits d (crate_line n us) = Unit {0}
 LineFits d (struct_line f n ps fs) = UsesFit d (struct_line f n ps fs) (types_uses (with_own d (struct_line f n ps fs)) [] fs)
 LineFits d (trait_line f a n ps bs) = AllOf (BoundFits d (trait_line f a n ps bs)) bs
 LineFits d (impl_line ps h ks) = ClauseFits d (impl_line ps h ks) h × AllOf (ClauseFits d (impl_line ps h ks)) ks
-LineFits d (prove_line c ps k ks) = ClauseFits d (prove_line c ps k ks) k × AllOf (ClauseFits d (prove_line c ps k ks)) ks
-LineFits d (refute_line c ps k) = ClauseFits d (refute_line c ps k) k
+LineFits d (prove_line c ps k bs ks) = AllOf (ClauseFits d (prove_line c ps k bs ks)) (k ∷ bs) × AllOf (ClauseFits d (prove_line c ps k bs ks)) ks
+LineFits d (refute_line c ps k bs) = AllOf (ClauseFits d (refute_line c ps k bs)) (k ∷ bs)
 LineFits d (later_line n) = Unit {0}
 LineFits d (supers_line n) = Unit {0}
 

@@ -1,11 +1,11 @@
 -- A line that is asked behind the lines of a text.
-use Rattle.std.specs.Prelude.{◌≡◌, ℕ, ◌<◌, List, length, Some, None, Ok, Err}
+use Rattle.std.specs.Prelude.{◌≡◌, ℕ, ◌<◌, List, ◌∷◌, length, Some, None, Ok, Err}
 use Rattle.text_language.specs.Promised.Declarations.{Declarations}
 use Rattle.text_language.specs.Adding.{added}
 use Rattle.text_language.specs.Text.{LineGives}
 use Rattle.text_lines.specs.declared.statement.LineRead.{LineRead}
 use Rattle.text_names.specs.FaultNumbers.{fault_number}
-use Rattle.text_tables.specs.Made.{ReferenceMade, ReferencesMade}
+use Rattle.text_tables.specs.Made.{ReferencesMade}
 use Rattle.text_tables.specs.Tables.{with_question}
 use Rattle.text_tables.specs.Views.{asker_of, question_of}
 use Rattle.text_tables.specs.declared.declared.QuestionEntry.{QuestionEntry}
@@ -16,7 +16,7 @@ use Rattle.text_parser.specs.declared.query_line.QueryLine.TheVariants as lines
 
 -- The entry is made as entries are, and asks in a crate that is there.
 pub record FitsTables (d : Declarations) (q : QuestionEntry) : Type 0 where
-  pub asked : ReferenceMade q.asked
+  pub asked : ReferencesMade (q.asked ∷ q.further.items)
   pub clauses : ReferencesMade q.clauses.items
   pub asker : asker_of q.asked_how < length d.crates
 

@@ -1,5 +1,5 @@
 //! The types and trait references of a line, by numbers alone.
-ghost use Rattle.std.specs.Prelude.{◌≡◌, map, IfOk};
+ghost use Rattle.std.specs.Prelude.{◌≡◌, ◌∷◌, map, IfOk};
 ghost use Rattle.text_lines.specs.Views.{params_in, statement_of};
 ghost use Rattle.text_parser.specs.Declaring.{IsRead, IsJudged};
 ghost use Rattle.text_tables.specs.Made.{AreMade, ReferenceMade, ReferencesMade, is_type};
@@ -118,18 +118,19 @@ pub(crate) fn question_entry<'a>(
     requires judged { IsJudged tables.now read.now found.now }
     requires line { IsAsking (declared tables.now) (statement_of read.now.statement) asked_how (params_in params.now) }
     ensures how { IfOk result (λ q. q.asked_how ≡ asked_how) }
-    ensures asked_made { IfOk result (λ q. ReferenceMade q.asked) }
+    ensures asked_made { IfOk result (λ q. ReferencesMade (q.asked ∷ q.further.items)) }
     ensures clauses_made { IfOk result (λ q. ReferencesMade q.clauses.items) }
     ensures entry { IfOk result (λ q. IsQuestionEntry (declared tables.now) (params_in params.now) read.now q) }
 {
     let names = names_of(tables, alloc, read)?;
-    let [subject, bound, ..] = found.asked.parts.as_slice() else {
+    let [subject, bound, others @ ..] = found.asked.parts.as_slice() else {
         unreachable!()
     };
     let firsts = each_once(alloc, &found.asked.variables)?;
     let variables = firsts.as_slice();
     let numbering = Numbering::Question { variables };
     let reference = clause_cells(&names, alloc, numbering, subject, bound)?;
+    let further = clauses_cells(&names, alloc, numbering, others)?;
     let references = clauses_cells(&names, alloc, numbering, &found.others.parts)?;
     let named = named_params(alloc, params)?;
     let unknowns = named_variables(alloc, variables)?;
@@ -137,6 +138,7 @@ pub(crate) fn question_entry<'a>(
         asked_how,
         params: named,
         asked: reference,
+        further,
         clauses: references,
         variables: unknowns,
     })

@@ -88,7 +88,7 @@ pub fn field_cells<'a, N: Names>(
     Ok(kept)
 }
 
-/// A where-clause, the header of an impl, or the bound of a query: the trait's number, with its arguments after Self. rustc: `TraitRef`.
+/// A where-clause, the header of an impl, or a bound of a query: the trait's number, with its arguments after Self. rustc: `TraitRef`.
 ///
 /// Fails only if memory is refused.
 pub fn clause_cells<'a, N: Names>(
@@ -106,7 +106,7 @@ pub fn clause_cells<'a, N: Names>(
     Ok(made)
 }
 
-/// Where-clauses, one after the other. The parts are the subject and then the bound of each.
+/// Where-clauses or bounds of a query, one after the other. The parts are the subject and then the bound of each.
 ///
 /// Fails only if memory is refused.
 pub fn clauses_cells<'a, N: Names>(

@@ -195,7 +195,7 @@ trait-declared t traits s n behind text number home =
     ∙ ap (λ h. with_trait d (record { text = n; kinds = sorts_of s.params.items; item = record (trait_of s).item { name = length d.traits; home = h } })) home
 
 -- ---- a question
-pub question-consistent : (t : Tables) (questions : Vec QuestionEntry Global) (asked : Vec Asked Global) (q : QuestionEntry) → IsConsistent t → ReferenceMade q.asked → ReferencesMade q.clauses.items
+pub question-consistent : (t : Tables) (questions : Vec QuestionEntry Global) (asked : Vec Asked Global) (q : QuestionEntry) → IsConsistent t → ReferencesMade (q.asked ∷ q.further.items) → ReferencesMade q.clauses.items
     → questions.items ≡ t.questions.items ++ q ∷ [] → asked.items ≡ t.asked.items ++ q.asked_how ∷ [] → asker_of q.asked_how < length t.crates.items
     → IsConsistent (record t { questions = questions; asked = asked })
 question-consistent t questions asked q i good goods behind also there =
@@ -213,7 +213,7 @@ question-consistent t questions asked q i good goods behind also there =
       last_items = i.last_items;
       last_later = i.last_later;
       sections_rise = i.sections_rise;
-      made = record { fields = i.made.fields; bounds = i.made.bounds; headers = i.made.headers; clauses = i.made.clauses; asked = subst (EachNumbered (λ k x. ReferenceMade x.asked)) (sym behind) (Each-push t.questions.items q i.made.asked good); given = subst (EachNumbered (λ k x. ReferencesMade x.clauses.items)) (sym behind) (Each-push t.questions.items q i.made.given goods); later_headers = i.made.later_headers; later_clauses = i.made.later_clauses };
+      made = record { fields = i.made.fields; bounds = i.made.bounds; headers = i.made.headers; clauses = i.made.clauses; asked = subst (EachNumbered (λ k x. ReferencesMade (x.asked ∷ x.further.items))) (sym behind) (Each-push t.questions.items q i.made.asked good); given = subst (EachNumbered (λ k x. ReferencesMade x.clauses.items)) (sym behind) (Each-push t.questions.items q i.made.given goods); later_headers = i.made.later_headers; later_clauses = i.made.later_clauses };
     }
 
 -- ---- an impl
@@ -439,7 +439,7 @@ core-consistent t old zs x y key v behind ids updated none number name uses stru
         bounds = subst (EachNumbered (λ k x. ReferencesMade x.bounds.items)) (sym traits) (Each-nothing (λ k x. ReferencesMade x.bounds.items));
         headers = subst (EachNumbered (λ k x. ReferenceMade x.header)) (sym impls) (Each-nothing (λ k x. ReferenceMade x.header));
         clauses = subst (EachNumbered (λ k x. ReferencesMade x.clauses.items)) (sym impls) (Each-nothing (λ k x. ReferencesMade x.clauses.items));
-        asked = subst (EachNumbered (λ k x. ReferenceMade x.asked)) (sym questions) (Each-nothing (λ k x. ReferenceMade x.asked));
+        asked = subst (EachNumbered (λ k x. ReferencesMade (x.asked ∷ x.further.items))) (sym questions) (Each-nothing (λ k x. ReferencesMade (x.asked ∷ x.further.items)));
         given = subst (EachNumbered (λ k x. ReferencesMade x.clauses.items)) (sym questions) (Each-nothing (λ k x. ReferencesMade x.clauses.items));
         later_headers = subst (EachNumbered (λ k x. ReferenceMade x.entry.header)) (sym bare.later) (Each-nothing (λ k x. ReferenceMade x.entry.header));
         later_clauses = subst (EachNumbered (λ k x. ReferencesMade x.entry.clauses.items)) (sym bare.later) (Each-nothing (λ k x. ReferencesMade x.entry.clauses.items));

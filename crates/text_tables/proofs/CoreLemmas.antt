@@ -1,5 +1,5 @@
 -- The items of `core`, put one behind the other.
-use Rattle.std.proofs.Common.{◌≡◌, ℕ, zero, suc, ◌+◌, ◌<◌, ◌≤◌, true, false, List, [], ◌∷◌, ◌++◌, length, take, refl, sym, ap, subst, ◌∙◌, arith, length-append, append_assoc, get_or, add-one}
+use Rattle.std.proofs.Common.{◌≡◌, ℕ, zero, suc, ◌+◌, ◌<◌, ◌≤◌, List, [], ◌∷◌, ◌++◌, length, take, refl, sym, ap, subst, ◌∙◌, arith, length-append, append_assoc, get_or, add-one}
 use Rattle.std.proofs.lemmas.List.{map_push, length-map}
 use Rattle.std.specs.Prelude.{map}
 use Rattle.type_terms.specs.Promised.Label.{Sort}

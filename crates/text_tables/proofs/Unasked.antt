@@ -4,7 +4,7 @@ use Rattle.std.specs.Prelude.{map, slice_get}
 use Rattle.std.proofs.Math.Seq.{take-length, take-append_seam}
 use Rattle.std.proofs.lemmas.List.{length-map, take-map}
 use Rattle.text_language.specs.Promised.Declarations.{Question}
-use Rattle.text_tables.specs.Made.{ReferenceMade, ReferencesMade}
+use Rattle.text_tables.specs.Made.{ReferencesMade}
 use Rattle.text_tables.specs.Numbered.{EachNumbered}
 use Rattle.text_tables.specs.Tables.{IsConsistent, declared}
 use Rattle.text_tables.specs.Views.{question_of}
@@ -55,7 +55,7 @@ taken t n questions asked i first also =
         bounds = i.made.bounds;
         headers = i.made.headers;
         clauses = i.made.clauses;
-        asked = subst (EachNumbered (λ k x. ReferenceMade x.asked)) (sym first) (Each-take n t.questions.items i.made.asked);
+        asked = subst (EachNumbered (λ k x. ReferencesMade (x.asked ∷ x.further.items))) (sym first) (Each-take n t.questions.items i.made.asked);
         given = subst (EachNumbered (λ k x. ReferencesMade x.clauses.items)) (sym first) (Each-take n t.questions.items i.made.given);
         later_headers = i.made.later_headers;
         later_clauses = i.made.later_clauses;

@@ -34,10 +34,10 @@ IsImplLine d params header clauses (impl_line ps h ks) =
     (params ≡ sorted_names ps) × (header ≡ clause_reference (item_meanings d (impl_line ps h ks) 0) h) × (clauses ≡ map (clause_reference (item_meanings d (impl_line ps h ks) 0)) ks)
 IsImplLine d params header clauses _ = ⊥
 
--- `prove in C<...> a where ...`, `refute in C<...> a`
+-- `prove in C<...> a, ... where ...`, `refute in C<...> a, ...`
 abbrev pub IsWrittenQuestion : Declarations → Question → Line → Type 0
-IsWrittenQuestion d q (prove_line c ps a ks) = q ≡ question_of d (question_meanings d (prove_line c ps a ks)) false c ps a ks
-IsWrittenQuestion d q (refute_line c ps a) = q ≡ question_of d (question_meanings d (refute_line c ps a)) true c ps a []
+IsWrittenQuestion d q (prove_line c ps a bs ks) = q ≡ question_of d (question_meanings d (prove_line c ps a bs ks)) false c ps a bs ks
+IsWrittenQuestion d q (refute_line c ps a bs) = q ≡ question_of d (question_meanings d (refute_line c ps a bs)) true c ps a bs []
 IsWrittenQuestion d q _ = ⊥
 
 -- ---- what the parts declare

@@ -50,10 +50,10 @@ variable_code = code_by (List ℕ × Sort) (coded× text_code sort_code) (λ v. 
 
 abbrev pub question_code : Coded Question
 question_code =
-    code_by (Bool × (ℕ × (List (List ℕ) × (Reference × (List Reference × List Variable)))))
-    (coded× coded_bool (coded× coded_ℕ (coded× (coded_list text_code) (coded× reference_code (coded× (coded_list reference_code) (coded_list variable_code))))))
-    (λ q. (q.is_refute, (q.asker, (q.params, (q.asked, (q.clauses, q.variables))))))
-    (λ (b, (a, (ps, (r, (cs, vs))))). record { is_refute = b; asker = a; params = ps; asked = r; clauses = cs; variables = vs }) (λ _. refl)
+    code_by (Bool × (ℕ × (List (List ℕ) × (Reference × (List Reference × (List Reference × List Variable))))))
+    (coded× coded_bool (coded× coded_ℕ (coded× (coded_list text_code) (coded× reference_code (coded× (coded_list reference_code) (coded× (coded_list reference_code) (coded_list variable_code)))))))
+    (λ q. (q.is_refute, (q.asker, (q.params, (q.asked, (q.further, (q.clauses, q.variables)))))))
+    (λ (b, (a, (ps, (r, (rs, (cs, vs)))))). record { is_refute = b; asker = a; params = ps; asked = r; further = rs; clauses = cs; variables = vs }) (λ _. refl)
 
 abbrev pub later_code : Coded LaterImpl
 later_code = code_by (ℕ × NamedImpl) (coded× coded_ℕ impl_code) (λ i. (i.section, i.added)) (λ (k, i). record { section = k; added = i }) (λ _. refl)

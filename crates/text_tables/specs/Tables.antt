@@ -106,7 +106,7 @@ pub record AllCellsMade (t : Tables) : Type 0 where
   pub bounds : EachNumbered (λ k x. ReferencesMade x.bounds.items) t.traits.items
   pub headers : EachNumbered (λ k i. ReferenceMade i.header) t.impls.items
   pub clauses : EachNumbered (λ k i. ReferencesMade i.clauses.items) t.impls.items
-  pub asked : EachNumbered (λ k q. ReferenceMade q.asked) t.questions.items
+  pub asked : EachNumbered (λ k q. ReferencesMade (q.asked ∷ q.further.items)) t.questions.items
   pub given : EachNumbered (λ k q. ReferencesMade q.clauses.items) t.questions.items
   pub later_headers : EachNumbered (λ k i. ReferenceMade i.entry.header) t.later_impls.items
   pub later_clauses : EachNumbered (λ k i. ReferencesMade i.entry.clauses.items) t.later_impls.items

@@ -131,6 +131,7 @@ question_of q = record {
   asker = asker_of q.asked_how;
   params = param_names q.params.items;
   asked = reference_of q.asked;
+  further = map reference_of q.further.items;
   clauses = map reference_of q.clauses.items;
   variables = map variable_of q.variables.items;
 }

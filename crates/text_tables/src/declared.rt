@@ -143,11 +143,13 @@ pub struct Param {
     pub kind: ParamKind,
 }
 
-/// A query: `prove in C R where ...` or `refute in C R`.
+/// A query: `prove in C R, ... where ...` or `refute in C R, ...`.
 pub struct QuestionEntry {
     pub asked_how: Asked,
     pub params: Vec<Param>,
     pub asked: ReferenceCells,
+    /// The queried trait references after the first.
+    pub further: Vec<ReferenceCells>,
     pub clauses: Vec<ReferenceCells>,
     pub variables: Vec<Param>,
 }
@@ -159,6 +161,7 @@ impl Drop for QuestionEntry {
             asked_how: _,
             params: _,
             asked: _,
+            further: _,
             clauses: _,
             variables: _,
         } = self;

@@ -570,7 +570,7 @@ impl Tables {
     /// Adds a query. `prove` and `refute` are numbered together. Fails if memory is refused, and then leaves the tables unchanged.
     pub fn add_question(&mut self, entry: QuestionEntry) -> Result<(), AllocError>
         requires consistent { IsConsistent self.old }
-        requires asked { ReferenceMade entry.asked }
+        requires asked { ReferencesMade (entry.asked ∷ entry.further.items) }
         requires clauses { ReferencesMade entry.clauses.items }
         requires asker { asker_of entry.asked_how < length (declared self.old).crates }
         ensures declared { OnOk result (declared self.new ≡ with_question (declared self.old) (question_of entry)) }

@@ -1,5 +1,5 @@
 //! The declarations, checks and queries of a whole text.
-ghost use Rattle.std.specs.Prelude.{◌≡◌, ◌<◌, ◌+◌, Some, length, map, filter, take, suc, count_by, slice_get, ◌==◌, IfOk, OnOk, OnErr};
+ghost use Rattle.std.specs.Prelude.{◌≡◌, ◌<◌, ◌+◌, ◌∷◌, Some, length, map, filter, take, suc, count_by, slice_get, ◌==◌, IfOk, OnOk, OnErr};
 ghost use Rattle.std.specs.List.Sorted.{IsNonDecreasingBy};
 ghost use Rattle.std.specs.Option.{option_map};
 ghost use Rattle.type_terms.specs.Promised.Worlds.{sees, view_of};
@@ -74,7 +74,7 @@ impl Workspace {
 
     /// Adds a query after all others. Fails if memory is refused, and then changes nothing.
     pub fn add_question(&mut self, entry: QuestionEntry) -> Result<(), AllocError>
-        requires asked { ReferenceMade entry.asked }
+        requires asked { ReferencesMade (entry.asked ∷ entry.further.items) }
         requires clauses { ReferencesMade entry.clauses.items }
         requires asker { asker_of entry.asked_how < length self.old.crates }
         requires room { length self.old.questions + 1 < ENTRY_LIMIT }
@@ -194,7 +194,7 @@ impl Workspace {
     /// The queries in the order of the text.
     pub fn question_entries(&self) -> &[QuestionEntry]
         ensures items { map question_of result.now ≡ self.now.questions }
-        ensures asked { EachNumbered (λ k q. ReferenceMade q.asked) result.now }
+        ensures asked { EachNumbered (λ k q. ReferencesMade (q.asked ∷ q.further.items)) result.now }
         ensures clauses { EachNumbered (λ k q. ReferencesMade q.clauses.items) result.now }
     {
         &self.tables.questions

@@ -9,7 +9,7 @@ use Rattle.text_lines.proofs.worked_syntax_faults.Goals as goal
 pub returns-clause-lines : goal.returns-clause-lines
 unfolding tokens_of
 returns-clause-lines c = (
-  (unwritten (tokens_of (codes "crate")) refl, (unwritten (tokens_of (codes "crate b uses")) refl, (unwritten (tokens_of (codes "struct")) refl, (unwritten (tokens_of (codes "impl Show for")) refl, (unwritten (tokens_of (codes "impl Show for &'static")) refl, (unwritten (tokens_of (codes "impl Show for fn(u8")) refl, (unwritten (tokens_of (codes "impl Show for dyn")) refl, (unwritten (tokens_of (codes "prove in base u8")) refl, (unwritten (tokens_of (codes "trait Show:")) refl, (unwritten (tokens_of (codes "impl Show for u8 where")) refl, tt)))))))))),
+  (unwritten (tokens_of (codes "crate")) refl, (unwritten (tokens_of (codes "crate b uses")) refl, (unwritten (tokens_of (codes "struct")) refl, (unwritten (tokens_of (codes "impl Show for")) refl, (unwritten (tokens_of (codes "impl Show for &'static")) refl, (unwritten (tokens_of (codes "impl Show for fn(u8")) refl, (unwritten (tokens_of (codes "impl Show for dyn")) refl, (unwritten (tokens_of (codes "prove in base u8")) refl, (unwritten (tokens_of (codes "refute in base u8: Show,")) refl, (unwritten (tokens_of (codes "trait Show:")) refl, (unwritten (tokens_of (codes "impl Show for u8 where")) refl, tt))))))))))),
   (unwritten (tokens_of (codes "struct V()")) refl, (unwritten (tokens_of (codes "struct V<>")) refl, (unwritten (tokens_of (codes "impl Show for (u8)")) refl, (unwritten (tokens_of (codes "impl Show for [u8; ]")) refl, (unwritten (tokens_of (codes "impl Show for for<> fn()")) refl, tt))))),
   (unwritten (tokens_of (codes "struct V<T, 'a>")) refl, (unwritten (tokens_of (codes "struct V<const N, T>")) refl, (unwritten (tokens_of (codes "auto fundamental trait Show")) refl, (unwritten (tokens_of (codes "impl Show for mut &u8")) refl, tt)))),
   (unwritten (tokens_of (codes "refute in base u8: Show where u8: Show")) refl, (unwritten (tokens_of (codes "trait Show: 'a")) refl, (unwritten (tokens_of (codes "struct V(u8) -> u8")) refl, (unwritten (tokens_of (codes "impl Show for ?u8")) refl, (unwritten (tokens_of (codes "impl Show for &'1 u8")) refl, tt))))),

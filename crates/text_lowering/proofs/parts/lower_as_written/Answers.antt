@@ -1,4 +1,4 @@
-use Rattle.std.proofs.Common.{arith, ap, Err}
+use Rattle.std.proofs.Common.{arith, ap}
 use Rattle.type_terms.proofs.FailFacts.{at-limit}
 use Rattle.text_tables.specs.TermCells.{trees_of, joined}
 use Rattle.text_tables.specs.TermCounts.{parts}

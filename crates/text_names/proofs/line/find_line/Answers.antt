@@ -1,11 +1,11 @@
-use Rattle.std.proofs.Common.{◌≡◌, ◌-◌, ap, ◌∙◌, map, take, drop, length, arith}
+use Rattle.std.proofs.Common.{◌≡◌, ◌<◌, ◌*◌, ◌-◌, ap, ◌∙◌, map, take, drop, length, arith}
 use Rattle.std.specs.Prelude.{min}
 use Rattle.text_language.specs.Uses.{crate_use}
 use Rattle.text_lines.specs.TypeViews.{cells_in}
 use Rattle.text_names.specs.Machine.{findings}
 use Rattle.text_lines.specs.LineParts.{asked_parts}
 use Rattle.text_lines.specs.Views.{statement_of}
-use Rattle.text_names.specs.LineFound.{other_parts, asked_count}
+use Rattle.text_names.specs.LineFound.{other_parts, asked_bounds}
 use Rattle.text_names.specs.Speaks.{crates_mentioned}
 use Rattle.text_names.proofs.Crates.{crates-are-named}
 use Rattle.text_names.proofs.Finding.{finds-at}
@@ -19,7 +19,9 @@ returns g c l h =
     let ys = c.in_ok-parts.parts.items in
     let k = c.min-count.result in
     let n : c.len.result ≡ length ys = omega (arith, c.len.ensures) in
-    let count : k ≡ min (asked_count (statement_of r.statement)) (length ys) = c.min-count.ensures ∙ ap (λ z. min z c.len.result) c.asked_count.ensures ∙ ap (min (asked_count (statement_of r.statement))) n in
+    let small : length ys < 9223372036854775808 = omega (arith, c.in_ok-parts.parts.ok, c.in_ok-parts.parts.small) in
+    let count : k ≡ min (2 * asked_bounds (statement_of r.statement)) (length ys) =
+    omega (arith, c.min-count.ensures, c.saturating_mul.ensures, c.asked_bounds.ensures, n, small) in
     let split = read-split l r k ys h count c.in_ok-parts.ensures in
     record {
       crates = c.named_crates.ensures ∙ ap (λ s. findings v (map crate_use (crates_mentioned s))) h.0 ∙ ap (λ z. findings v (map crate_use z)) (crates-are-named l);

@@ -1,4 +1,4 @@
-use Rattle.std.proofs.Common.{◌≡◌, [], ◌∷◌, suc, ◌+◌, length, map, drop, sym, ◌∙◌, subst, ap, arith, Some, Err}
+use Rattle.std.proofs.Common.{◌≡◌, [], suc, ◌+◌, length, map, drop, sym, ◌∙◌, subst, ap, arith}
 use Rattle.type_terms.proofs.Grown.{grew-on}
 use Rattle.type_terms.proofs.FailFacts.{at-limit}
 use Rattle.text_tables.specs.Made.{parts_of}

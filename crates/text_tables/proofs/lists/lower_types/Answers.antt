@@ -1,4 +1,4 @@
-use Rattle.std.proofs.Common.{arith, subst, sym, ap, ◌∙◌, Err}
+use Rattle.std.proofs.Common.{arith, subst, sym, ◌∙◌}
 use Rattle.type_terms.proofs.FailFacts.{at-limit}
 use Rattle.text_tables.specs.Made.{is_type}
 use Rattle.text_tables.specs.Stack.{StackHeld, AllParts}

@@ -1,4 +1,4 @@
-use Rattle.std.proofs.Common.{refl, arith, ◌∙◌}
+use Rattle.std.proofs.Common.{refl, arith}
 use Rattle.text_tables.proofs.Consistent.{impl-consistent, impl-declared}
 use Rattle.text_tables.proofs.tables.Tables.add_own_impl.Goals as goal
 

@@ -1,4 +1,4 @@
-use Rattle.std.proofs.Common.{arith, ◌∙◌}
+use Rattle.std.proofs.Common.{arith}
 use Rattle.text_tables.proofs.Sections.{section-declared, section-consistent}
 use Rattle.text_tables.proofs.tables.Tables.add_section.Goals as goal
 
