@@ -30,8 +30,8 @@ module _ (limit : ℕ) (d : Declarations) (ls : List (List ℕ)) (told : AllZip 
 
 pub accepted-texts-hold : AcceptedTextsAreCoherent → AcceptedTextsHold SupertraitsStand
 accepted-texts-hold coherent limit bytes d ls says told accepted supers =
-    coherent d (bytes, says) (all-accepted limit d ls told accepted) supers limit
+    coherent d (bytes, says) (all-accepted limit d ls told accepted) supers
 
 pub held-texts-hold : HeldTextsAreCoherent → AcceptedTextsHold AllSayHeld
 held-texts-hold coherent limit bytes d ls says told accepted held =
-    coherent d (bytes, says) (all-accepted limit d ls told accepted) (all-held limit d ls told held) limit
+    coherent d (bytes, says) (all-accepted limit d ls told accepted) (all-held limit d ls told held)

@@ -23,6 +23,7 @@ use Rattle.sessions.specs.TextQuestions.{variable_kinds}
 use Rattle.sessions.specs.Verdicts.{placed}
 use Rattle.sessions.proofs.Entailment.{yes-holds}
 use Rattle.sessions.specs.Promised.Promises.{view_in}
+use Rattle.sessions.specs.Promised.Together.{all_asked}
 use Rattle.sessions.specs.Promised.Releases as releases
 use Rattle.sessions.specs.Promised.Releases.{StopsAt, given_clauses}
 use Rattle.sessions.specs.Promised.Subjects.{IsOfText}
@@ -163,7 +164,7 @@ module _ (limit : ℕ) (d : Declarations) (n : ℕ) (q : Question) where
   question-told _ (of_prove (answers.yes ts) e h) =
       subst (QuestionAnswer limit d n q) (with-values (codes "yes") ts)
       (says_proved (answers.yes ts) e h (λ W vs rank l ρ v.
-      yes-holds W vs rank l (placed (view_in d q.asker) q.asker ρ) v limit (variable_kinds q) ts (map erased_reference q.clauses) (erased_reference q.asked) h.0))
+      yes-holds W vs rank l (placed (view_in d q.asker) q.asker ρ) v (variable_kinds q) ts (map erased_reference q.clauses) (all_asked q) h.0))
   question-told _ (of_prove answers.unproved e h) = says_proved answers.unproved e h tt
   question-told _ (of_prove (answers.maybe ts) e h) = subst (QuestionAnswer limit d n q) (with-values (codes "maybe") ts) (says_proved (answers.maybe ts) e h tt)
   question-told _ (of_refute answers.no e h) = says_refuted answers.no e h

@@ -57,8 +57,8 @@ one-line d (impl_line ps k ks) h = by d.in_section refl
     by false e = one-more d.impls x h (number e)
 one-line d (later_line n) h = h
 one-line d (supers_line n) h = h
-one-line d (prove_line c ps a ks) h = h
-one-line d (refute_line c ps a) h = h
+one-line d (prove_line c ps a bs ks) h = h
+one-line d (refute_line c ps a bs) h = h
 
 -- ---- texts
 abbrev IfTaken : {E : Type 0} → Result Declarations E → Type 0

@@ -157,8 +157,13 @@ as-variables : (vs : List (List ℕ × Sort)) → AreTerms vs → AreTermVariabl
 as-variables [] h = tt
 as-variables (v ∷ vs) h = (h.0, as-variables vs h.1)
 
-of-clause : (d : Declarations) (k : Clause) → AllFit (clause_uses d k) → AreTermVariables (map (λ v. (let x : Variable = record { text = v.0; kind = v.1 } in x)) (once (variables_in (clause_uses d k))))
-of-clause d k h = as-variables _ (each-once _ (found (clause_uses d k) (clause-fine d k h)))
+clauses-fine : (d : Declarations) (ks : List Clause) → AllFit (flat_map (clause_uses d) ks) → AllTerms (flat_map (clause_uses d) ks)
+clauses-fine d [] h = tt
+clauses-fine d (k ∷ ks) h = fine-append (clause_uses d k) (flat_map (clause_uses d) ks) (clause-fine d k) (clauses-fine d ks) h
+
+of-clauses : (d : Declarations) (ks : List Clause) → AllFit (flat_map (clause_uses d) ks)
+    → AreTermVariables (map (λ v. (let x : Variable = record { text = v.0; kind = v.1 } in x)) (once (variables_in (flat_map (clause_uses d) ks))))
+of-clauses d ks h = as-variables _ (each-once _ (found (flat_map (clause_uses d) ks) (clauses-fine d ks h)))
 
 -- ---- questions
 abbrev AllAsk : List Question → Type 0
@@ -183,9 +188,10 @@ line-asks d (impl_line ps k ks) f h = by d.in_section
     by false = h
 line-asks d (later_line n) f h = h
 line-asks d (supers_line n) f h = h
-line-asks d (prove_line c ps a ks) f h =
-    more d.questions _ h (of-clause d a (all-left (clause_uses d a) (flat_map (clause_uses d) ks) (fit-all d (prove_line c ps a ks) _ (faultless-uses d (prove_line c ps a ks) f).1)))
-line-asks d (refute_line c ps a) f h = more d.questions _ h (of-clause d a (fit-all d (refute_line c ps a) _ (faultless-uses d (refute_line c ps a) f).1))
+line-asks d (prove_line c ps a bs ks) f h =
+    let l = prove_line c ps a bs ks in
+    more d.questions _ h (of-clauses d (a ∷ bs) (all-left (flat_map (clause_uses d) (a ∷ bs)) (flat_map (clause_uses d) ks) (fit-all d l _ (faultless-uses d l f).1)))
+line-asks d (refute_line c ps a bs) f h = let l = refute_line c ps a bs in more d.questions _ h (of-clauses d (a ∷ bs) (fit-all d l _ (faultless-uses d l f).1))
 
 -- ---- texts
 abbrev AskIfTaken : {E : Type 0} → Result Declarations E → Type 0

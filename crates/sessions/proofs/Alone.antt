@@ -77,14 +77,14 @@ module _ (q : Question) (old new : List Entry) (law : Lawful old) (k : Keeps old
 
   module _ (own : HasVariablesAlone q) where
     pub clean-there : HasNoCanonical (reference_in new l.asked).args
-    clean-there = subst (λ (r : Reference). HasNoCanonical r.args) (sym reference-is) (no-canonical (variable_kinds q) (unbound_reference q.asked).args own)
+    clean-there = subst (λ (r : Reference). HasNoCanonical r.args) (sym reference-is) (no-canonical (variable_kinds q) (unbound_reference q.asked).args own.0)
 
     pub known-there : (t : Table) → t ≡ table_of (map arg_sort l.unknowns.items) → AreKnown (variables_of t) (reference_in new l.asked).args
     known-there t made =
         let is : t ≡ table_of (variable_kinds q) = made ∙ ap table_of (kinds-are old law l.unknowns.items q.variables 0 0 low.unknowns_held low.unknowns) in
         subst (λ (r : Reference). AreKnown (variables_of t) r.args) (sym reference-is)
         (known (variable_kinds q) (variables_of t) (enough t.ty_vars (number_of of_type (variable_kinds q)) (ap (λ (u : Table). u.ty_vars) is))
-        (enough t.const_vars (number_of of_const (variable_kinds q)) (ap (λ (u : Table). u.const_vars) is)) (unbound_reference q.asked).args own)
+        (enough t.const_vars (number_of of_const (variable_kinds q)) (ap (λ (u : Table). u.const_vars) is)) (unbound_reference q.asked).args own.0)
 
     pub refused-there : (first second : TypingMode → CanonicalForm → Handled frame_tables) → second ≡ first → HasNoProof second (goal_alone (reference_in new l.asked)) → HasNoProof first (goal_alone (unbound_reference q.asked))
     refused-there first second e h = subst (λ z. HasNoProof z (goal_alone (unbound_reference q.asked))) e (subst (λ r. HasNoProof second (goal_alone r)) reference-is h)

@@ -40,7 +40,7 @@ resolved-below : (bs : List Binding) (k : PredicateKind) (c : Trees) → resolve
 resolved-below [] k c = refl
 resolved-below (b ∷ older) k c = ap (λ t. replace b.sort b.var (resolved older b.value) t) (resolved-below older k c)
 
-bound-below : (bs : List Binding) (k : PredicateKind) (c : Trees) (b : Bool) → some_node is_bound_term (resolved bs c) ≡ b → some_node is_bound_term (resolved bs (tree (predicate k) c none)) ≡ b
+pub bound-below : (bs : List Binding) (k : PredicateKind) (c : Trees) (b : Bool) → some_node is_bound_term (resolved bs c) ≡ b → some_node is_bound_term (resolved bs (tree (predicate k) c none)) ≡ b
 bound-below bs k c b e = ap (λ t. some_node is_bound_term t) (resolved-below bs k c) ∙ no-more (some_node is_bound_term (resolved bs c)) ∙ e
 
 module _ {Handler : Type 0} (handler : HandlerMeaning Handler) (ks : List Sort) (c : SolverCx Handler) (t : Table) (table_is : t ≡ table_of ks) (g : Goal) where

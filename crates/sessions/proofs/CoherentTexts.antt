@@ -4,7 +4,7 @@ use Rattle.std.proofs.lemmas.Option.{same_Some}
 use Rattle.type_terms.specs.Promised.Label.{Sort}
 use Rattle.type_terms.specs.Promised.Trees.{Trees}
 use Rattle.type_terms.specs.Promised.Worlds.{World, ImplDecl, Reference, core}
-use Rattle.type_terms.specs.Promised.Proofs.{In, HasProof}
+use Rattle.type_terms.specs.Promised.Proofs.{In, Every, HasProof}
 use Rattle.type_terms.specs.Promised.Supers.{IsHeld}
 use Rattle.type_terms.specs.Promised.Renumbering.{View, HoldsView, renumbered_reference}
 use Rattle.type_terms.specs.Renumbering.{as_they_are, view_at}
@@ -14,12 +14,13 @@ use Rattle.type_terms.proofs.SameNumbers.{reference-same}
 use Rattle.type_terms.proofs.HeldSets.{held-linked}
 use Rattle.type_terms.proofs.NoHolds.{every-member}
 use Rattle.type_terms.specs.Promised.Verdicts.{IsAccepted}
-use Rattle.type_terms.specs.Promised.SetLaws.{HeadlineHolds, AnswersHold, AnswersHoldEverywhere}
-use Rattle.type_terms.specs.Promised.Questions.{filled_reference, SolutionBy, Solution, yes, IsProveAnswer, no, IsRefuteAnswer}
+use Rattle.type_terms.specs.Promised.SetLaws.{HeadlineHolds}
+use Rattle.type_terms.specs.Promised.Questions.{yes, no}
 use Rattle.text_language.specs.Promised.Declarations.{Declarations}
 use Rattle.sessions.specs.Promised.CoherentTexts.{text_world}
 use Rattle.sessions.specs.Promised.Entailment.{Entails}
 use Rattle.sessions.specs.Promised.Promises.{view_in}
+use Rattle.sessions.specs.Promised.Together.{filled_references, SolutionOfAll, AreProved, AreRefuted}
 use Rattle.sessions.specs.Promised.CoherentTexts.{CratesAreAccepted, CratesAreHeld, TextIsCoherent, HeldTextsAreCoherent}
 use Rattle.sessions.specs.CoherentTexts.{AcceptedTextsAreCoherent}
 use Rattle.sessions.proofs.Entailment.{yes-holds as yes-in-sets}
@@ -104,43 +105,50 @@ module _ (d : Declarations) (a : AllKept d) (accepted : CratesAreAccepted d) whe
   pub held-supertraits : CratesAreHeld d → HeadersHaveSupertraits W
   held-supertraits held = (held-linked W own (λ n. n) (set cs) answered (of-own (λ v. IsHeld v.world v.asker) held)).supers_proved
 
-  module _ (headline : HeadlineHolds) (answers : AnswersHoldEverywhere) (supers : HeadersHaveSupertraits W) where
+  module _ (headline : HeadlineHolds) (supers : HeadersHaveSupertraits W) where
     linked : (xs : List ℕ) → LinkedSet W (map (view_at W) xs) (λ n. n)
     linked xs = record { joined = set xs; supers_proved = supers }
 
-    asked : (limit c : ℕ) → AnswersHold limit W (view_at W c ∷ [])
-    asked limit c = answers limit W (view_at W c ∷ []) (λ n. n) (linked (c ∷ []))
+    -- the text holds what a crate sees of it
+    holds : (c : ℕ) → HoldsView W (view_at W c)
+    holds c = every-member (HoldsView W) (view_at W c ∷ []) (view_at W c) (set (c ∷ [])).as_answered (here (view_at W c) [])
 
-    no-holds : (limit c : ℕ) (ks : List Sort) (r : Reference) → IsRefuteAnswer limit (view_in d c) c ks r no → Solution W ks r → ⊥
-    no-holds limit c ks r h s = (asked limit c).no_holds (view_at W c) (here (view_at W c) []) ks r h (subst (Solution W ks) (sym (reference-same r)) s)
+    no-holds : (c : ℕ) (ks : List Sort) (rs : List Reference) → AreRefuted (view_in d c) c ks rs no → SolutionOfAll (HasProof W []) ks rs → ⊥
+    no-holds c ks rs h sol = h.1 W (view_at W c ∷ []) (λ n. n) (linked (c ∷ [])) as_they_are (holds c) (subst (SolutionOfAll (HasProof W []) ks) (sym (references-same rs)) sol)
 
-    yes-holds : (limit c : ℕ) (ks : List Sort) (ts : List Trees) (E : List Reference) (r : Reference) → IsProveAnswer limit (view_in d c) ks E r (yes ts) → Entails W E (filled_reference ks ts r)
-    yes-holds limit c ks ts E r h =
-        subst (λ F. Entails W F (filled_reference ks ts r)) (references-same E)
-        (subst (Entails W (map (renumbered_reference as_they_are) E)) (reference-same (filled_reference ks ts r))
-        (yes-in-sets W (view_at W c ∷ []) (λ n. n) (linked (c ∷ [])) (view_at W c) (every-member (HoldsView W) (view_at W c ∷ []) (view_at W c) (set (c ∷ [])).as_answered (here (view_at W c) [])) limit ks ts E r h))
+    as-named : (E xs : List Reference) → Every (λ x. Entails W (map (renumbered_reference as_they_are) E) (renumbered_reference as_they_are x)) xs → Every (Entails W E) xs
+    as-named E [] h = tt
+    as-named E (x ∷ xs) h =
+        (subst (λ F. Entails W F x) (references-same E) (subst (Entails W (map (renumbered_reference as_they_are) E)) (reference-same x) h.0), as-named E xs h.1)
+
+    yes-holds : (c : ℕ) (ks : List Sort) (ts : List Trees) (E rs : List Reference) → AreProved (view_in d c) ks E rs (yes ts) → Every (Entails W E) (filled_references ks ts rs)
+    yes-holds c ks ts E rs h = as-named E (filled_references ks ts rs) (yes-in-sets W (view_at W c ∷ []) (λ n. n) (linked (c ∷ [])) (view_at W c) (holds c) ks ts E rs h)
+
+    all-generic : (xs : List Reference) → Every (Entails W []) xs → Every (HasProof W []) xs
+    all-generic [] h = tt
+    all-generic (x ∷ xs) h = (h.0.generic, all-generic xs h.1)
 
     -- a solution by what a crate sees is one of the text
-    solved-there : (limit e : ℕ) (ks : List Sort) (r : Reference) → SolutionBy (HasProof (view_in d e) []) ks r → Solution W ks r
-    solved-there limit e ks r s = record {
+    solved-there : (e : ℕ) (ks : List Sort) (rs : List Reference) → SolutionOfAll (HasProof (view_in d e) []) ks rs → SolutionOfAll (HasProof W []) ks rs
+    solved-there e ks rs s = record {
       values = s.values;
       fitting = s.fitting;
       closed = s.closed;
-      proved = (yes-holds limit e ks s.values [] r (s.fitting, s.proved, λ _. s)).generic;
+      proved = all-generic (filled_references ks s.values rs) (yes-holds e ks s.values [] rs (s.fitting, s.proved, λ _. s));
     }
 
-    pub coherent : (limit : ℕ) → TextIsCoherent limit d
-    coherent limit = record {
+    pub coherent : TextIsCoherent d
+    coherent = record {
       one_impl = (headline W own (λ n. n) (linked cs) answered (of-own (λ v. IsAccepted v.world v.asker) accepted)).one_impl;
-      no_holds = no-holds limit;
-      yes_holds = yes-holds limit;
-      no_or_yes = λ c e ks ts r alone h y own. no-holds limit c ks r h (solved-there limit e ks r (solved (view_in d e) r alone limit ks ts y own));
+      no_holds = no-holds;
+      yes_holds = yes-holds;
+      no_or_yes = λ c e ks ts rs alone h y own. no-holds c ks rs h (solved-there e ks rs (solved (view_in d e) rs alone ks ts y own));
     }
 
-pub accepted-texts-are-coherent : HeadlineHolds → AnswersHoldEverywhere → AcceptedTextsAreCoherent
-accepted-texts-are-coherent headline answers d (bytes, t) accepted supers limit = coherent d (texts-are-kept bytes d (text-gives bytes (Ok d) t)) accepted headline answers supers limit
+pub accepted-texts-are-coherent : HeadlineHolds → AcceptedTextsAreCoherent
+accepted-texts-are-coherent headline d (bytes, t) accepted supers = coherent d (texts-are-kept bytes d (text-gives bytes (Ok d) t)) accepted headline supers
 
-pub held-texts-are-coherent : HeadlineHolds → AnswersHoldEverywhere → HeldTextsAreCoherent
-held-texts-are-coherent headline answers d (bytes, t) accepted held limit =
+pub held-texts-are-coherent : HeadlineHolds → HeldTextsAreCoherent
+held-texts-are-coherent headline d (bytes, t) accepted held =
     let a = texts-are-kept bytes d (text-gives bytes (Ok d) t) in
-    coherent d a accepted headline answers (held-supertraits d a accepted held) limit
+    coherent d a accepted headline (held-supertraits d a accepted held)

@@ -24,7 +24,7 @@ use Rattle.type_terms.proofs.FilledRules.{PlainWorld, over-supers}
 use Rattle.type_terms.proofs.Fillings.{shift-shut}
 use Rattle.type_terms.proofs.Discharged.{Given, given, discharged}
 use Rattle.type_terms.proofs.ArrangedTrees.{reference-at}
-use Rattle.type_terms.specs.Promised.Questions.{filled_reference as with_values}
+use Rattle.sessions.specs.Promised.Together.{filled_references}
 use Rattle.type_terms.proofs.JoinedParts.{map-written}
 use Rattle.sessions.specs.Promised.Entailment.{ClosedArguments, closed_instance, closed_bounds, closed_reference, HasClosedProof, Entails, YesHolds}
 
@@ -210,10 +210,14 @@ module _ (W : World) (vs : List View) (rank : ℕ → ℕ) (l : LinkedSet W vs r
 
 -- a `yes` holds in each set with its view
 pub yes-holds : InEveryLinkedSet YesHolds
-yes-holds W vs rank l v s limit ks ts E r a =
-    entailed W vs rank l (map (renumbered_reference v.numbers) E) (renumbered_reference v.numbers x)
-    (proof-before W vs rank l.joined (asker_in_set v) (view_before W v).impls s.later (map (renumbered_reference v.numbers) E) (renumbered_reference v.numbers x)
-    (proof-there v.numbers v.world (view_before W v) s.renumbers E x a.1))
+yes-holds W vs rank l v s ks ts E rs a = each (filled_references ks ts rs) a.1
   where
-    x : Reference
-    x = with_values ks ts r
+    one : (x : Reference) → HasProof v.world E x → Entails W (map (renumbered_reference v.numbers) E) (renumbered_reference v.numbers x)
+    one x p =
+        entailed W vs rank l (map (renumbered_reference v.numbers) E) (renumbered_reference v.numbers x)
+        (proof-before W vs rank l.joined (asker_in_set v) (view_before W v).impls s.later (map (renumbered_reference v.numbers) E) (renumbered_reference v.numbers x)
+        (proof-there v.numbers v.world (view_before W v) s.renumbers E x p))
+
+    each : (xs : List Reference) → Every (HasProof v.world E) xs → Every (λ x. Entails W (map (renumbered_reference v.numbers) E) (renumbered_reference v.numbers x)) xs
+    each [] h = tt
+    each (x ∷ xs) h = (one x h.0, each xs h.1)

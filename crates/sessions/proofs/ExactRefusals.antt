@@ -200,7 +200,7 @@ pub question-formed : (d : Declarations) → IsOfText d → (n : ℕ) (q : Quest
 question-formed d text n q is alone made es decls seen =
     let fit = question-fits text.0 d (text-given d text) (n - 1) q is.there es decls seen in
     record {
-      terms = all-better is_in_range stands_free (is_unfree (variable_kinds q)) (both-free (variable_kinds q)) terms (unbound_reference q.asked).args made (free-terms (variable_kinds q) q.asked.args alone);
+      terms = all-better is_in_range stands_free (is_unfree (variable_kinds q)) (both-free (variable_kinds q)) terms (unbound_reference q.asked).args made (free-terms (variable_kinds q) q.asked.args alone.0);
       nodes = fit.nodes;
       trait = fit.trait;
     }

@@ -168,15 +168,15 @@ own-grows d (impl_line ps k ks) c s = by d.in_section s
     by : (b : Bool) → (world_of d).crates ≡ (world_of (with_impl_at d x b)).crates → Grows (scope_of d (impl_line ps k ks) c) (scope (with_impl_at d x b) c)
     by true q = record { structs = λ k n. same-there d.structs k n struct_kinds struct_home; traits = λ k n. same-there d.traits k n trait_kinds trait_home; sees = seen-still d (with_impl_at d x true) q c }
     by false q = record { structs = λ k n. same-there d.structs k n struct_kinds struct_home; traits = λ k n. same-there d.traits k n trait_kinds trait_home; sees = seen-still d (with_impl_at d x false) q c }
-own-grows d (prove_line n ps a ks) c s = record {
+own-grows d (prove_line n ps a bs ks) c s = record {
   structs = λ k n. same-there d.structs k n struct_kinds struct_home;
   traits = λ k n. same-there d.traits k n trait_kinds trait_home;
-  sees = seen-still d (added d (prove_line n ps a ks)) s c;
+  sees = seen-still d (added d (prove_line n ps a bs ks)) s c;
 }
-own-grows d (refute_line n ps a) c s = record {
+own-grows d (refute_line n ps a bs) c s = record {
   structs = λ k n. same-there d.structs k n struct_kinds struct_home;
   traits = λ k n. same-there d.traits k n trait_kinds trait_home;
-  sees = seen-still d (added d (refute_line n ps a)) s c;
+  sees = seen-still d (added d (refute_line n ps a bs)) s c;
 }
 own-grows d (later_line n) c s = record {
   structs = λ k n. same-there d.structs k n struct_kinds struct_home;
@@ -426,49 +426,50 @@ line-formed d line (crate_line n us) w f well h =
     crates-there : (vs : List (List ℕ)) → UsesFit d (crate_line n us) (map crate_use vs) → (u : ℕ) → In u (map (λ v. crate_number (known d v)) vs) → u < length d.crates
     crates-there [] g u i = absurd (in-nothing u i)
     crates-there (v ∷ vs) g u i = elim (in-cases u (crate_number (known d v)) (map (λ z. crate_number (known d z)) vs) i) [ inl q ↦ subst (λ k. k < length d.crates) q (crate-there d v h g.0) | inr j ↦ crates-there vs g.1 u j ]
-line-formed d line (prove_line c ps a ks) w f well h =
-    let l = prove_line c ps a ks in
+line-formed d line (prove_line c ps a bs ks) w f well h =
+    let l = prove_line c ps a bs ks in
     let e = added d l in
     let k = crate_number (known d c) in
-    let vs = once (variables_in (clause_uses d a)) in
+    let vs = once (variables_in (flat_map (clause_uses d) (a ∷ bs))) in
     let goes = λ (x : ℕ). item-grows d e [] [] (nothing-behind d.structs) (nothing-behind d.traits) x (seen-still d e refl x) in
     let bare = autos-bare d well.bare in
     let free = placeholder-free (scope_of d l k) in
-    let scalar = prove-scalars line c ps a ks w in
+    let scalar = prove-scalars line c ps a bs ks w in
     let grown = reference-grows (scope_of d l k) (scope e k) (own-grows d l k refl) in
     let seen : SeenUses d l k = (faultless-uses d l f, asker-sees d l c (uses-crates d l f) (passes-tests d l f).has_seen_names) in
-    let all = tail-seen d l 0 k placeholder vs placeholder-sorted free well.struct_numbers well.trait_numbers bare (crate_use c) (clause_uses d a ++ flat_map (clause_uses d) ks) seen in
-    let asked = clause-formed d l 0 k placeholder vs placeholder-sorted free well.struct_numbers well.trait_numbers bare a scalar.0 (head-of d l 0 k placeholder vs placeholder-sorted free well.struct_numbers well.trait_numbers bare (clause_uses d a) (flat_map (clause_uses d) ks) all) in
-    let others = clauses-formed d l 0 k placeholder vs placeholder-sorted free well.struct_numbers well.trait_numbers bare ks scalar.1 (rest-of d l 0 k placeholder vs placeholder-sorted free well.struct_numbers well.trait_numbers bare (clause_uses d a) (flat_map (clause_uses d) ks) all) in
+    let all = tail-seen d l 0 k placeholder vs placeholder-sorted free well.struct_numbers well.trait_numbers bare (crate_use c) (flat_map (clause_uses d) (a ∷ bs) ++ flat_map (clause_uses d) ks) seen in
+    let asked = clause-formed d l 0 k placeholder vs placeholder-sorted free well.struct_numbers well.trait_numbers bare a scalar.0.0
+    (head-of d l 0 k placeholder vs placeholder-sorted free well.struct_numbers well.trait_numbers bare (clause_uses d a) (flat_map (clause_uses d) bs) (head-of d l 0 k placeholder vs placeholder-sorted free well.struct_numbers well.trait_numbers bare (flat_map (clause_uses d) (a ∷ bs)) (flat_map (clause_uses d) ks) all)) in
+    let others = clauses-formed d l 0 k placeholder vs placeholder-sorted free well.struct_numbers well.trait_numbers bare ks scalar.1 (rest-of d l 0 k placeholder vs placeholder-sorted free well.struct_numbers well.trait_numbers bare (flat_map (clause_uses d) (a ∷ bs)) (flat_map (clause_uses d) ks) all) in
     record {
       crates = h.crates;
       structs = structs-still d e goes h;
       traits = traits-still d e goes h;
       impls = impls-still d e goes h;
-      questions = each-more (QuestionFormed e) d.questions (question_of d (question_meanings d l) false c ps a ks) (questions-still d e goes h)
+      questions = each-more (QuestionFormed e) d.questions (question_of d (question_meanings d l) false c ps a bs ks) (questions-still d e goes h)
           (grown (clause_reference (question_meanings d l) a) asked, each-map (IsFormedReference (scope_of d l k)) (IsFormedReference (scope e k)) grown (map (clause_reference (question_meanings d l)) ks) others);
       later_impls = later-still d e goes h;
       core = h.core;
     }
-line-formed d line (refute_line c ps a) w f well h =
-    let l = refute_line c ps a in
+line-formed d line (refute_line c ps a bs) w f well h =
+    let l = refute_line c ps a bs in
     let e = added d l in
     let k = crate_number (known d c) in
-    let vs = once (variables_in (clause_uses d a)) in
+    let vs = once (variables_in (flat_map (clause_uses d) (a ∷ bs))) in
     let goes = λ (x : ℕ). item-grows d e [] [] (nothing-behind d.structs) (nothing-behind d.traits) x (seen-still d e refl x) in
     let bare = autos-bare d well.bare in
     let free = placeholder-free (scope_of d l k) in
-    let scalar = refute-scalars line c ps a w in
+    let scalar = refute-scalars line c ps a bs w in
     let grown = reference-grows (scope_of d l k) (scope e k) (own-grows d l k refl) in
     let seen : SeenUses d l k = (faultless-uses d l f, asker-sees d l c (uses-crates d l f) (passes-tests d l f).has_seen_names) in
-    let all = tail-seen d l 0 k placeholder vs placeholder-sorted free well.struct_numbers well.trait_numbers bare (crate_use c) (clause_uses d a) seen in
-    let asked = clause-formed d l 0 k placeholder vs placeholder-sorted free well.struct_numbers well.trait_numbers bare a scalar all in
+    let all = tail-seen d l 0 k placeholder vs placeholder-sorted free well.struct_numbers well.trait_numbers bare (crate_use c) (flat_map (clause_uses d) (a ∷ bs)) seen in
+    let asked = clause-formed d l 0 k placeholder vs placeholder-sorted free well.struct_numbers well.trait_numbers bare a scalar.0 (head-of d l 0 k placeholder vs placeholder-sorted free well.struct_numbers well.trait_numbers bare (clause_uses d a) (flat_map (clause_uses d) bs) all) in
     record {
       crates = h.crates;
       structs = structs-still d e goes h;
       traits = traits-still d e goes h;
       impls = impls-still d e goes h;
-      questions = each-more (QuestionFormed e) d.questions (question_of d (question_meanings d l) true c ps a []) (questions-still d e goes h)
+      questions = each-more (QuestionFormed e) d.questions (question_of d (question_meanings d l) true c ps a bs []) (questions-still d e goes h)
           (grown (clause_reference (question_meanings d l) a) asked, tt);
       later_impls = later-still d e goes h;
       core = h.core;

@@ -1,6 +1,6 @@
 -- The answer to a question as it is handed on: what the search says, but maybe, with the variables themselves, if some value is foreign.
 use Rattle.std.specs.Prelude.{◌⊎◌}
-use Rattle.std.proofs.Common.{◌≡◌, ℕ, suc, true, false, List, [], ◌∷◌, map, inl, inr, refl, sym, ap, ◌∙◌, subst}
+use Rattle.std.proofs.Common.{◌≡◌, ℕ, suc, true, false, List, [], ◌∷◌, ◌++◌, map, inl, inr, refl, sym, ap, ◌∙◌, subst}
 use Rattle.type_terms.specs.Promised.Label.{Sort, of_type, of_const, of_lifetime, infer}
 use Rattle.type_terms.specs.Promised.Trees.{Trees, leaf, some_node}
 use Rattle.type_terms.specs.Promised.Handles.{Entry, Keeps}
@@ -18,14 +18,16 @@ use Rattle.infer_table.specs.Solutions.{resolved}
 use Rattle.candidate_assembly.specs.Solving.{Solving}
 use Rattle.candidate_assembly.specs.SolverMeaning.{solver_by_view}
 use Rattle.solver_graph.specs.LeftTables.{itself}
+use Rattle.fulfillment.specs.Leaving.{itself as no-answer}
 use Rattle.text_language.specs.Names.{own_from, own_unknowns}
 use Rattle.text_language.specs.Promised.Declarations.{Question, Variable}
 use Rattle.text_lowering.specs.Promised.Questions.{variable_kinds}
 use Rattle.text_lowering.specs.Promised.SeenWorlds.{unbound_reference}
 use Rattle.text_lowering.specs.Plain.{unbound_references}
-use Rattle.sessions.specs.Foreign.{HasNoPreference, HasPreference, IsOwnAnswer, IsTakenBack, are_own_terms, are_own_values, is_unknown_term}
+use Rattle.sessions.specs.Foreign.{HasNoPreference, HasPreference, IsMaybeWith, IsOwnAnswer, IsOwnAnswerOfAll, IsTakenBack, are_own_terms, are_own_values, is_unknown_term}
 use Rattle.sessions.specs.Promised.Given.{AnswerValuesHeld, values_of_answer}
 use Rattle.sessions.specs.Proving.{HasLeftValues, HasUnknowns, IsAnsweredInSearch, IsAnsweredBySolver, IsNotSettled, goal_asking, speak_of_own}
+use Rattle.sessions.specs.ProvingTogether.{AreAnsweredBySolver, AreAnsweredInSearch, HaveLeftValues, asked_references, goals_asking}
 use Rattle.sessions.specs.Tables.{table_of}
 use Rattle.sessions.specs.declared.answers.ProveAnswer.{ProveAnswer}
 use Rattle.sessions.specs.declared.answers.ProveAnswer.TheVariants.{Yes, Maybe, Unproved}
@@ -113,3 +115,41 @@ pub own-held : (V : World) (r : Reference) (E : List Reference) (us : List Gener
     → ArgsHeld es us → AnswerValuesHeld es a → AnswerValuesHeld es b
 own-held V r E us es a b (inl h) unknowns held = subst (AnswerValuesHeld es) (sym h.0) held
 own-held V r E us es a b (inr h) unknowns held = subst (AnswerValuesHeld es) (sym h.themselves.1) (subst (ArgsHeld es) (sym h.themselves.2) unknowns)
+
+-- ---- several references
+module _ (s : Solving) (depth : ℕ) (q : Question) (es : List Entry) where
+  abbrev AllLeft : List Trees → Type 0
+  AllLeft ts = HaveLeftValues solver_by_view s (variable_kinds q) (goals_asking s.view q) (own_unknowns q) ts
+
+  all-themselves : AllLeft (own_unknowns q)
+  all-themselves = record { entries = []; table = table_of (variable_kinds q); ready = bare-table (variable_kinds q); are = each-same (own_unknowns q); left = no-answer }
+
+  abbrev all_references : List Reference
+  all_references = asked_references q ++ unbound_references q.clauses
+
+  each-told : (a : ProveAnswer) → AreAnsweredInSearch s depth q es a → HasNoPreference (unbound_references q.clauses) a
+      → are_own_terms s.view all_references (map (arg_trees es) (values_of_answer a)) ≡ true → AreAnsweredBySolver s depth q es a
+  each-told (Yes values) told alone own = (told, own)
+  each-told (Maybe values) told alone own = (told, own, inl alone)
+  each-told Unproved told alone own = told
+
+  with-variables : (us : List GenericArgKind) → map (arg_trees es) us ≡ own_unknowns q → (b : ProveAnswer) → IsMaybeWith us b → AreAnsweredBySolver s depth q es b
+  with-variables us are b h =
+      let ts : map (arg_trees es) h.0.items ≡ own_unknowns q = ap (map (arg_trees es)) h.2 ∙ are in
+      subst (AreAnsweredBySolver s depth q es) (sym h.1) (subst AllLeft (sym ts) all-themselves, ap (are_own_terms s.view all_references) ts ∙ own-so s.view all_references 0 0 q.variables, inr ts)
+
+  all-of-own : (us : List GenericArgKind) → map (arg_trees es) us ≡ own_unknowns q → (a b : ProveAnswer) → AreAnsweredInSearch s depth q es a
+      → IsOwnAnswerOfAll s.view (asked_references q) (unbound_references q.clauses) us es a b → AreAnsweredBySolver s depth q es b
+  all-of-own us are a b told (inl h) = subst (AreAnsweredBySolver s depth q es) (sym h.0) (each-told a told h.1 h.2)
+  all-of-own us are a b told (inr h) = with-variables us are b h
+
+  pub all-handed-on : (V : World) (rs E : List Reference) (us : List GenericArgKind) (a b : ProveAnswer) → V ≡ s.view → rs ≡ asked_references q → E ≡ unbound_references q.clauses
+      → map (arg_trees es) us ≡ own_unknowns q → AreAnsweredInSearch s depth q es a → IsOwnAnswerOfAll V rs E us es a b → AreAnsweredBySolver s depth q es b
+  all-handed-on V rs E us a b v e f are told own =
+      all-of-own us are a b told
+      (subst (λ x. IsOwnAnswerOfAll s.view (asked_references q) x us es a b) f (subst (λ x. IsOwnAnswerOfAll s.view x E us es a b) e (subst (λ x. IsOwnAnswerOfAll x rs E us es a b) v own)))
+
+pub all-own-held : (V : World) (rs E : List Reference) (us : List GenericArgKind) (es : List Entry) (a b : ProveAnswer) → IsOwnAnswerOfAll V rs E us es a b
+    → ArgsHeld es us → AnswerValuesHeld es a → AnswerValuesHeld es b
+all-own-held V rs E us es a b (inl h) unknowns held = subst (AnswerValuesHeld es) (sym h.0) held
+all-own-held V rs E us es a b (inr h) unknowns held = subst (AnswerValuesHeld es) (sym h.1) (subst (ArgsHeld es) (sym h.2) unknowns)

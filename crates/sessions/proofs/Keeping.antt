@@ -1,10 +1,11 @@
 -- What is true of a session when it begins, and stays true.
-use Rattle.std.proofs.Common.{◌≡◌, ◌-◌, ℕ, Bool, true, false, List, [], Option, None, Result, Ok, Err, refl, sym, ap, ◌∙◌, subst}
+use Rattle.std.proofs.Common.{◌≡◌, ◌-◌, ℕ, Bool, true, false, List, [], ◌∷◌, map, Option, None, Result, Ok, Err, refl, sym, ap, ◌∙◌, subst}
 use Rattle.std.specs.Prelude.{IfOk, OnOk}
 use Rattle.type_terms.specs.Promised.Answers.{is_bounded, is_possible}
 use Rattle.type_terms.specs.Promised.Erased.{erased_world, erased_reference}
 use Rattle.type_terms.specs.Promised.Worlds.{Reference}
 use Rattle.type_terms.specs.Made.{terms as as_terms, is_made, is_in_range}
+use Rattle.type_terms.specs.Promised.Questions.{IsRefuteAnswer, no, unrefuted}
 use Rattle.type_terms.specs.declared.Fault.{Fault}
 use Rattle.infer_table.specs.Responses.{AnswerTrees}
 use Rattle.type_terms.specs.Promised.Handles.{Entry}
@@ -27,6 +28,7 @@ use Rattle.candidate_assembly.specs.Fitting.{solving_of}
 use Rattle.candidate_assembly.specs.Ready.{AreReadyDeclarations}
 use Rattle.candidate_assembly.specs.Solving.{Solving, solver_for, meaning_for}
 use Rattle.text_lowering.specs.Ready.{AreSeen}
+use Rattle.text_lowering.specs.Promised.Questions.{variable_kinds}
 use Rattle.text_lowering.specs.QuestionVariables.{HasVariablesAlone, RefutationsHaveVariablesAlone}
 use Rattle.goal_frames.specs.Meanings.{HandlerMeaning}
 use Rattle.candidate_assembly.specs.SolverMeaning.{solver_by_view}
@@ -35,6 +37,8 @@ use Rattle.sessions.specs.declared.answers.RefuteAnswer.TheVariants.{No, Open}
 use Rattle.sessions.specs.Asking.{HasNoProof, IsLeftOpen, IsRefusedAlone, goal_alone, asked_alone}
 use Rattle.sessions.specs.Promised.Given.{refutation_of}
 use Rattle.sessions.specs.Promised.Promises.{view_in, IsRefutation}
+use Rattle.sessions.specs.Promised.Together.{all_asked, AreRefuted}
+use Rattle.sessions.specs.ProvingTogether.{AreRefused}
 use Rattle.sessions.specs.Promises.{IsRefutedQuestion}
 use Rattle.sessions.specs.Refusals.{session_meaning, IsToldPossible}
 use Rattle.sessions.specs.Resting.{Cached, AreAtRest}
@@ -45,6 +49,10 @@ use Rattle.sessions.proofs.LifetimesAlone.{refusal-is}
 use Rattle.sessions.proofs.Refusals.{refuted, plain-erased}
 use Rattle.sessions.proofs.SelfTypes.{self-types-begin}
 use Rattle.sessions.proofs.GivenTexts.{text-given}
+use Rattle.sessions.proofs.QuestionTerms.{AreFixedTerms}
+use Rattle.sessions.proofs.RefutedTogether.{all-refuted, no-parameters, one-refuted}
+use Rattle.sessions.proofs.RightAnswers.{none-more}
+use Rattle.sessions.proofs.TextQuestions.{fixed}
 
 -- limits that are kept are those that were given
 pub limits-stay : (handles : ℕ) (c d : SolverCx Solver) → HasLimits handles c → KeepsLimits c d → HasLimits handles d
@@ -129,10 +137,11 @@ module _ (d : Declarations) (c depth : ℕ) (cx : SolverCx Solver) (graph : Sear
   -- what a call says of a question that it answers
   pub record IsAnswered (n : ℕ) (q : Question) (a : Result RefuteAnswer Fault) : Type 0 where
     pub made : OnOk a (is_made is_in_range as_terms (asked_of q).args ≡ true)
-    pub no : a ≡ Ok No → HasVariablesAlone q → HasNoProof (solver_for (solved cx)) (goal_alone (asked_of q))
-    pub refused : a ≡ Ok No
+    pub no : a ≡ Ok No → q.further ≡ [] → HasVariablesAlone q → HasNoProof (solver_for (solved cx)) (goal_alone (asked_of q))
+    pub refused : a ≡ Ok No → q.further ≡ []
         → IsRefusedAlone solver_by_view (solved cx) n (asked_of q)
-    pub left : a ≡ Ok Open → LeftOpen n q
+    pub left : a ≡ Ok Open → q.further ≡ [] → LeftOpen n q
+    pub together : a ≡ Ok No → (q.further ≡ [] → ⊥) → AreRefused solver_by_view (solved cx) n q
 
   module _ (alone : RefutationsHaveVariablesAlone) (n : ℕ) (q : Question) (a : AsksRefutation d c n q) where
     own-alone : HasVariablesAlone q
@@ -156,18 +165,46 @@ module _ (d : Declarations) (c depth : ℕ) (cx : SolverCx Solver) (graph : Sear
     abbrev Possible : Reference → Bool → Type 0
     Possible r b = is_possible depth (view_in d q.asker) q.asker r ≡ b
 
-    said : (r : Result RefuteAnswer Fault) → IsAnswered graph.root_depth q r → IfOk r (λ x. IsRefutation depth d q (refutation_of x))
-    said (Ok No) h = (
-      refused-is-refuted alone n q a (h.no refl),
-      λ b.
+    -- of one trait reference
+    module _ (e : q.further ≡ []) where
+      one-no : IsAnswered graph.root_depth q (Ok No) → IsRefuteAnswer depth (view_in d q.asker) q.asker (variable_kinds q) (erased_reference q.asked) no
+      one-no h = (
+        refused-is-refuted alone n q a (h.no refl e),
+        λ b.
+            let bounded = subst Bounded (sym same-asked) b in
+            let x = h.refused refl e in
+            let is_none = refusal-is x.table x.no_values (asked_of q) (closed-by depth (view_in d q.asker) q.asker (asked_of q) bounded) x.answer x.refused in
+            subst (λ z. Possible z false) same-asked
+            ((told-of h.made bounded).refused (subst (λ k. Found k (asked_of q) None) is.rest.depth (subst (Found graph.root_depth (asked_of q)) is_none x.found))),
+      )
+
+      one-open : IsAnswered graph.root_depth q (Ok Open) → IsRefuteAnswer depth (view_in d q.asker) q.asker (variable_kinds q) (erased_reference q.asked) unrefuted
+      one-open h = λ b.
           let bounded = subst Bounded (sym same-asked) b in
-          let x = h.refused refl in
-          let e = refusal-is x.table x.no_values (asked_of q) (closed-by depth (view_in d q.asker) q.asker (asked_of q) bounded) x.answer x.refused in
-          subst (λ z. Possible z false) same-asked ((told-of h.made bounded).refused (subst (λ k. Found k (asked_of q) None) is.rest.depth (subst (Found graph.root_depth (asked_of q)) e x.found))),
-    )
-    said (Ok Open) h = λ b.
-        let bounded = subst Bounded (sym same-asked) b in
-        subst (λ z. Possible z true) same-asked ((told-of h.made bounded).left_open (subst (λ k. LeftOpen k q) is.rest.depth (h.left refl)))
+          subst (λ z. Possible z true) same-asked ((told-of h.made bounded).left_open (subst (λ k. LeftOpen k q) is.rest.depth (h.left refl e)))
+
+    -- of several
+    terms-fixed : AreFixedTerms q
+    terms-fixed = fixed is.text.0 d (text-given d is.text) (n - 1) q a.asks.question.there solves.entries solves.declarations solves.seen
+
+    several-no : AreRefused solver_by_view (solved cx) graph.root_depth q → AreRefuted (view_in d q.asker) q.asker (variable_kinds q) (all_asked q) no
+    several-no h =
+        all-refuted d q.asker (solved cx) (is.view.rules ∙ ap (rules_seen_from d) (sym a.asks.asker)) (is.view.local ∙ sym a.asks.asker)
+        (self-types-begin (entries_of cx) cx.handler.declarations is.rest.ready.handler.held) (variable_kinds q) (q.asked ∷ q.further) (terms-fixed.own, terms-fixed.further)
+        (no-parameters (variable_kinds q) (q.asked ∷ q.further) own-alone) graph.root_depth h
+
+    any-no : IsAnswered graph.root_depth q (Ok No) → AreRefuted (view_in d q.asker) q.asker (variable_kinds q) (all_asked q) no
+    any-no h = by q.further refl
+      where
+        by : (rs : List Reference) → q.further ≡ rs → AreRefuted (view_in d q.asker) q.asker (variable_kinds q) (all_asked q) no
+        by [] e =
+            subst (λ rs. AreRefuted (view_in d q.asker) q.asker (variable_kinds q) (erased_reference q.asked ∷ map erased_reference rs) no) (sym e)
+            (one-refuted (view_in d q.asker) q.asker (variable_kinds q) (erased_reference q.asked) (one-no e h).0)
+        by (r ∷ rs) e = several-no (h.together refl (λ f. none-more r rs (sym e ∙ f)))
+
+    said : (r : Result RefuteAnswer Fault) → IsAnswered graph.root_depth q r → IfOk r (λ x. IsRefutation depth d q (refutation_of x))
+    said (Ok No) h = (any-no h, λ e. one-no e h)
+    said (Ok Open) h = (tt, λ e. one-open e h)
     said (Err e) h = tt
 
   pub answered-exactly : RefutationsHaveVariablesAlone → (n : ℕ) (q : Question) → AsksRefutation d c n q → (r : Result RefuteAnswer Fault) → IsAnswered graph.root_depth q r → IfOk r (λ x. IsRefutation depth d q (refutation_of x))

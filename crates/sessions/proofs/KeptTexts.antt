@@ -328,8 +328,8 @@ line-kept d line (crate_line n us) w f well formed h =
       later_headers = later-still d e (λ k y q. q) (λ k y q. q) see (grown d.crates x) d.later_impls h.later_headers;
       later_homes = h.later_homes;
     }
-line-kept d line (prove_line c ps a ks) w f well formed h =
-    let e = added d (prove_line c ps a ks) in
+line-kept d line (prove_line c ps a bs ks) w f well formed h =
+    let e = added d (prove_line c ps a bs ks) in
     record {
       impl_numbers = h.impl_numbers;
       crates = h.crates;
@@ -346,8 +346,8 @@ line-kept d line (prove_line c ps a ks) w f well formed h =
       later_headers = same-later d e refl refl refl d.later_impls h.later_headers;
       later_homes = h.later_homes;
     }
-line-kept d line (refute_line c ps a) w f well formed h =
-    let e = added d (refute_line c ps a) in
+line-kept d line (refute_line c ps a bs) w f well formed h =
+    let e = added d (refute_line c ps a bs) in
     record {
       impl_numbers = h.impl_numbers;
       crates = h.crates;

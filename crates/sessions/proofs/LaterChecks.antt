@@ -44,7 +44,8 @@ every-more P [] n x e h p = absurd cc
 every-more P (y ∷ ys) zero x e h p = (subst P (sym (same_Some y x e)) p, tt)
 every-more P (y ∷ ys) (suc n) x e h p = (h.0, every-more P ys n x e h.1 p)
 
-map-get : {A B : Type 0} (f : A → B) (xs : List A) (n : ℕ) (y : B) → slice_get (map f xs) n ≡ Some y → (x : A) × (slice_get xs n ≡ Some x) × (f x ≡ y)
+-- what a function gives for the nth is that of the nth
+pub map-get : {A B : Type 0} (f : A → B) (xs : List A) (n : ℕ) (y : B) → slice_get (map f xs) n ≡ Some y → (x : A) × (slice_get xs n ≡ Some x) × (f x ≡ y)
 map-get f [] n y e = absurd cc
 map-get f (x ∷ xs) zero y e = (x, refl, same_Some (f x) y e)
 map-get f (x ∷ xs) (suc n) y e = map-get f xs n y e

@@ -62,6 +62,10 @@ mod DecidedAnswers
 pub mod Answering
 pub mod Answered
 pub mod Posing
+pub mod AnsweredTogether
+pub mod Obligations
+pub mod Unbound
+pub mod SeveralAsked
 pub mod ClausesApply
 pub mod SolversClauses
 pub mod RightAnswers
@@ -70,7 +74,12 @@ mod BareAnswers
 mod SizedAlone
 mod OwnTables
 mod CoveringValues
+mod Instances
+mod KeptSolutions
+mod SolvedReferences
 mod CoveringAnswers
+mod ProvedTogether
+mod RefutedTogether
 mod Unsolved
 mod OtherAnswers
 pub mod OpaqueTerms
@@ -104,6 +113,7 @@ pub mod FixedGoals
 pub use Rattle.candidate_assembly.proofs as CandidateAssembly
 pub use Rattle.candidate_model.proofs as CandidateModel
 pub use Rattle.declarations.proofs as Declarations
+pub use Rattle.fulfillment.proofs as Fulfillment
 pub use Rattle.infer_table.proofs as InferTable
 pub use Rattle.overlap_check.proofs as OverlapCheck
 pub use Rattle.proof_checker.proofs as ProofChecker

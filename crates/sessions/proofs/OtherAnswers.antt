@@ -36,21 +36,22 @@ use Rattle.sessions.specs.Decided.{IsAnsweredRightly, IsAnsweredExactly}
 use Rattle.sessions.specs.DecidedAnswers.{OtherAnswersAreRight}
 use Rattle.sessions.specs.Fitting.{sorts_in}
 use Rattle.sessions.specs.Goals.{goal_of, is_fixed, are_fixed}
+use Rattle.sessions.specs.Promised.Given.{answer_in}
 use Rattle.sessions.specs.Promised.Promises.{EndsWithin, HasFewRules, view_in}
 use Rattle.sessions.specs.Foreign.{is_unknown_term}
-use Rattle.sessions.proofs.Unsolved.{unsolved}
 use Rattle.sessions.specs.Proving.{is_bound_term, goal_asking, speak_of_own, HasUnknowns, IsNotSettled, IsRefusedGoal, IsUnsettledGoal}
 use Rattle.type_terms.specs.Promised.Handles.{Entry}
-use Rattle.type_terms.specs.Promised.Questions.{SolutionBy}
+use Rattle.type_terms.specs.Promised.Questions as answers
 use Rattle.sessions.specs.Questions.{IsFormedAsWritten}
 use Rattle.sessions.specs.Sessions.{IsSolvingOf}
 use Rattle.sessions.specs.Promised.Subjects.{IsOfText}
 use Rattle.sessions.specs.Tables.{table_of}
+use Rattle.sessions.specs.declared.answers.ProveAnswer.TheVariants.{Maybe}
 use Rattle.sessions.proofs.BareAnswers.{bare-is-left}
-use Rattle.sessions.proofs.CoveringAnswers.{maybe-covers}
+use Rattle.sessions.proofs.CoveringAnswers.{maybe-covers, unsolved}
 use Rattle.sessions.proofs.DecidedAnswers.{decided-are-answered, short-are-answered, formed-so, as-asked, as-written}
 use Rattle.sessions.proofs.OpaqueTerms.{node}
-use Rattle.sessions.proofs.ProvedQuestions.{speaks}
+use Rattle.sessions.proofs.ProvedQuestions.{one-alone, speaks}
 use Rattle.sessions.proofs.ExactRefusals.{not-so}
 
 -- ---- terms in which nothing may get a value but lifetimes, which get none
@@ -234,19 +235,13 @@ module _ (d : Declarations) (text : IsOfText d) (n : ℕ) (q : Question) (is : I
   maybe-exactly short es (inr h) = absurd (false-true (sym known ∙ h.unknowns))
 
 pub other-answers-are-right : OtherAnswersAreRight
-other-answers-are-right d text n q is s of depth es = (
-  λ h. (
-    λ decided proof. unproved d text n q is s of depth decided.0 decided.1 h proof,
-    tt,
-    tt,
-    λ bare alone sol. unsolved d text n q is s of alone bare depth h (subst (λ E. SolutionBy (HasProof (view_in d q.asker) E) (variable_kinds q) (erased_reference q.asked)) bare sol),
-    λ closed short proof. unproved-exactly d text n q is s of depth closed short h proof,
-  ),
-  λ values h. (
-    λ decided. never-maybe d text n q is s of depth decided.0 decided.1 es h.0,
-    speaks d text n q is s of es values (subst (λ (x : Solving). HasUnknowns q → speak_of_own x q es values.items ≡ true) of.is h.2),
-    tt,
-    λ alone. maybe-covers d text n q is s of es values h.1 h.3 alone,
-    λ closed short. maybe-exactly d text n q is s of depth closed short es h.0,
-  ),
+other-answers-are-right d text n q is e s of depth es = (
+  λ h.
+      one-alone d text n q is s of depth answers.unproved e tt tt (λ bare alone sol. unsolved d text n q is s of depth h bare alone sol)
+      ((λ decided proof. unproved d text n q is s of depth decided.0 decided.1 h proof), tt, λ closed short proof. unproved-exactly d text n q is s of depth closed short h proof),
+  λ values h.
+      one-alone d text n q is s of depth (answer_in es (Maybe values)) e tt
+      (speaks d text n q is s of es values (subst (λ (x : Solving). HasUnknowns q → speak_of_own x q es values.items ≡ true) of.is h.2))
+      (λ alone. maybe-covers d text n q is s of es values h.1 h.3 alone)
+      ((λ decided. never-maybe d text n q is s of depth decided.0 decided.1 es h.0), tt, λ closed short. maybe-exactly d text n q is s of depth closed short es h.0),
 )

@@ -1,5 +1,5 @@
 -- Values that speak of what their question speaks of: with lifetimes and without; and what follows of a question without parameters.
-use Rattle.std.proofs.Common.{◌≡◌, ℕ, Bool, true, false, not, ◌||◌, ◌&&◌, ◌==◌, if◌then◌else◌, filter, List, [], ◌∷◌, map, refl, sym, ap, ◌∙◌, subst, IsTrue}
+use Rattle.std.proofs.Common.{◌≡◌, ℕ, Bool, true, false, not, ◌||◌, ◌&&◌, ◌==◌, if◌then◌else◌, filter, List, [], ◌∷◌, ◌++◌, map, refl, sym, ap, ◌∙◌, subst, IsTrue}
 use Rattle.std.specs.List.{list_any}
 use Rattle.type_terms.specs.Promised.Answers.{is_closed, is_undeclared, is_variable}
 use Rattle.type_terms.specs.Promised.Erased.{erased_reference, erased_struct}
@@ -10,9 +10,10 @@ use Rattle.type_terms.specs.Promised.Worlds.{World, CrateDecl, StructDecl, Refer
 use Rattle.type_terms.proofs.Fitting.{or-no, child-shut, next-shut}
 use Rattle.type_terms.proofs.Made.{false-true}
 use Rattle.candidate_model.proofs.ErasedCandidates.{without_lifetimes}
-use Rattle.type_terms.specs.Promised.Questions.{FitKinds, filled_reference, HoldUnknownsAlone, SolutionBy, IsProveAnswer, yes, is_bound_place}
+use Rattle.type_terms.specs.Promised.Questions.{FitKinds, filled_reference, HoldUnknownsAlone, yes, is_bound_place}
 use Rattle.overlap_check.proofs.Filling.{filled-shut}
 use Rattle.sessions.specs.Foreign.{is_unknown_term, is_foreign_term, are_own_terms}
+use Rattle.sessions.specs.Promised.Together.{filled_references, SolutionOfAll, AreProved}
 use Rattle.sessions.specs.Promised.OwnValues.{is_unknown, is_same_param, occurs_among, is_stray_place, is_foreign, are_own, HasNoParameter, SpeakOfOwn}
 use Rattle.type_terms.proofs.Matching.{or-false-left as no-left}
 use Rattle.type_terms.proofs.BooleanBasics.{or-swap as swapped}
@@ -180,20 +181,34 @@ defaults-closed (of_type ∷ ks) = (refl, defaults-closed ks)
 defaults-closed (of_const ∷ ks) = (refl, defaults-closed ks)
 defaults-closed (of_lifetime ∷ ks) = (refl, defaults-closed ks)
 
-module _ (V : World) (r : Reference) (alone : HasNoParameter r) where
-  none-stands : (m : Label) → occurs_among (r ∷ []) m ≡ false
-  none-stands m = both-false (some_node (λ l. is_same_param l m) r.args) false (some-less is_bound_place (λ l. is_same_param l m) (no-same m) r.args alone) refl
+-- no parameter stands in references without parameters
+none-stands : (rs : List Reference) → Every HasNoParameter rs → (m : Label) → occurs_among rs m ≡ false
+none-stands [] alone m = refl
+none-stands (r ∷ rs) alone m =
+    both-false (some_node (λ l. is_same_param l m) r.args) (occurs_among rs m) (some-less is_bound_place (λ l. is_same_param l m) (no-same m) r.args alone.0) (none-stands rs alone.1 m)
 
-  own-label : (l : Label) → is_foreign V (r ∷ []) l ≡ false → is_bound_place l ≡ false
+-- what is unknown in none of them stays as it is
+shut-in : (r : Reference) → HasNoParameter r → some_node is_unknown r.args ≡ false → some_node is_variable r.args ≡ false
+shut-in r alone e = some-less (λ l. is_unknown l || is_bound_place l) is_variable variable-label r.args (some-either is_unknown is_bound_place r.args ∙ both-false (some_node is_unknown r.args) (some_node is_bound_place r.args) e alone)
+
+all-same-filled : (ks : List Sort) (ts us : List Trees) (rs : List Reference) → Every HasNoParameter rs → list_any (λ (r : Reference). some_node is_unknown r.args) rs ≡ false → filled_references ks ts rs ≡ filled_references ks us rs
+all-same-filled ks ts us [] alone e = refl
+all-same-filled ks ts us (r ∷ rs) alone e =
+    let shut = shut-in r alone.0 (no-left (some_node is_unknown r.args) (list_any (λ (x : Reference). some_node is_unknown x.args) rs) e) in
+    ap (λ z. (let x : Reference = record { trait = r.trait; args = z } in x) ∷ filled_references ks ts rs) (filled-shut ks ts r.args shut ∙ sym (filled-shut ks us r.args shut))
+    ∙ ap (λ xs. filled_reference ks us r ∷ xs) (all-same-filled ks ts us rs alone.1 (no-right (some_node is_unknown r.args) (list_any (λ (x : Reference). some_node is_unknown x.args) rs) e))
+
+module _ (V : World) (rs : List Reference) (alone : Every HasNoParameter rs) where
+  own-label : (l : Label) → is_foreign V rs l ≡ false → is_bound_place l ≡ false
   own-label (infer s i) h = refl
-  own-label (placeholder s i) h = absurd (false-true (sym h ∙ ap not (none-stands (placeholder s i))))
+  own-label (placeholder s i) h = absurd (false-true (sym h ∙ ap not (none-stands rs alone (placeholder s i))))
   own-label l h = no-right (is_undeclared V l) (is_bound_place l) h
 
-  own-each : (ts : List Trees) → are_own V (r ∷ []) ts ≡ true → HoldUnknownsAlone ts
+  own-each : (ts : List Trees) → are_own V rs ts ≡ true → HoldUnknownsAlone ts
   own-each [] h = tt
   own-each (t ∷ ts) h =
-      let x = both (not (some_node (is_foreign V (r ∷ [])) t)) (are_own V (r ∷ []) ts) h in
-      (some-less (is_foreign V (r ∷ [])) is_bound_place own-label t (not-false (some_node (is_foreign V (r ∷ [])) t) x.0), own-each ts x.1)
+      let x = both (not (some_node (is_foreign V rs) t)) (are_own V rs ts) h in
+      (some-less (is_foreign V rs) is_bound_place own-label t (not-false (some_node (is_foreign V rs) t) x.0), own-each ts x.1)
     where
       both : (a b : Bool) → (a && b) ≡ true → (a ≡ true) × (b ≡ true)
       both true b h = (refl, h)
@@ -203,16 +218,19 @@ module _ (V : World) (r : Reference) (alone : HasNoParameter r) where
       not-false false h = refl
       not-false true h = cc
 
+  nothing-behind : (xs : List Reference) → xs ++ [] ≡ xs
+  nothing-behind [] = refl
+  nothing-behind (x ∷ xs) = ap (λ ys. x ∷ ys) (nothing-behind xs)
+
   -- what is answered yes without where-clauses has a solution
-  pub solved : (limit : ℕ) (ks : List Sort) (ts : List Trees) → IsProveAnswer limit V ks [] r (yes ts) → SpeakOfOwn V [] r ts → SolutionBy (HasProof V []) ks r
-  solved limit ks ts y own = by (some_node is_unknown r.args) refl
+  pub solved : (ks : List Sort) (ts : List Trees) → AreProved V ks [] rs (yes ts) → SpeakOfOwn V [] rs ts → SolutionOfAll (HasProof V []) ks rs
+  solved ks ts y own = by (list_any (λ (r : Reference). some_node is_unknown r.args) rs) refl
     where
-      shut : some_node is_unknown r.args ≡ false → some_node is_variable r.args ≡ false
-      shut e = some-less (λ l. is_unknown l || is_bound_place l) is_variable variable-label r.args (some-either is_unknown is_bound_place r.args ∙ both-false (some_node is_unknown r.args) (some_node is_bound_place r.args) e alone)
-
-      same : some_node is_unknown r.args ≡ false → filled_reference ks ts r ≡ filled_reference ks (defaults ks) r
-      same e = ap (λ z. (let x : Reference = record { trait = r.trait; args = z } in x)) (filled-shut ks ts r.args (shut e) ∙ sym (filled-shut ks (defaults ks) r.args (shut e)))
-
-      by : (b : Bool) → some_node is_unknown r.args ≡ b → SolutionBy (HasProof V []) ks r
-      by true e = y.2 (own-each ts (own e))
-      by false e = record { values = defaults ks; fitting = defaults-fit ks; closed = defaults-closed ks; proved = subst (HasProof V []) (same e) y.1 }
+      by : (b : Bool) → list_any (λ (r : Reference). some_node is_unknown r.args) rs ≡ b → SolutionOfAll (HasProof V []) ks rs
+      by true e = y.2 (own-each ts (subst (λ xs. are_own V xs ts ≡ true) (nothing-behind rs) (own e)))
+      by false e = record {
+        values = defaults ks;
+        fitting = defaults-fit ks;
+        closed = defaults-closed ks;
+        proved = subst (Every (HasProof V [])) (all-same-filled ks ts (defaults ks) rs alone e) y.1;
+      }

@@ -1,6 +1,6 @@
 -- What an answer `yes` proves: with its values the reference has a proof by the declarations as they are written, and so by the same
 -- without their lifetimes.
-use Rattle.std.proofs.Common.{◌≡◌, ◌-◌, ◌<◌, ℕ, suc, Bool, true, false, not, ◌||◌, if◌then◌else◌, List, [], ◌∷◌, map, refl, sym, ◌∙◌, ap, subst}
+use Rattle.std.proofs.Common.{◌≡◌, ◌-◌, ◌<◌, ℕ, suc, Bool, true, false, not, ◌||◌, if◌then◌else◌, List, [], ◌∷◌, ◌++◌, map, refl, sym, ◌∙◌, ap, subst}
 use Rattle.std.specs.Global.{Vec}
 use Rattle.type_terms.specs.Promised.Label.{Label, Sort, of_type, of_const, of_lifetime, bool, char, value, dynamic, principal, auto_trait, of_trait, predicate, param, placeholder, infer, canonical, bound}
 use Rattle.type_terms.specs.Promised.Proofs.{In, HasProof}
@@ -12,6 +12,7 @@ use Rattle.type_terms.specs.Promised.Worlds.{World, CrateDecl, Reference}
 use Rattle.type_terms.proofs.ProofEntries.{map-in}
 use Rattle.type_terms.proofs.Fitting.{or-no, child-shut, next-shut}
 use Rattle.type_terms.proofs.Members.{in-map}
+use Rattle.type_terms.proofs.RenumberedRules.{map-append}
 use Rattle.type_terms.specs.Promised.Handles.{arg_trees}
 use Rattle.type_terms.specs.declared.kinds.GenericArgKind.{GenericArgKind}
 use Rattle.type_terms.specs.Made.{Standing, terms, bounds, traits, is_made}
@@ -48,16 +49,17 @@ use Rattle.text_lowering.specs.Plain.{unbound_references}
 use Rattle.text_lowering.specs.QuestionVariables.{number_of}
 use Rattle.text_lowering.specs.Promised.Questions.{variable_kinds}
 use Rattle.text_lowering.specs.Ready.{AreSeen}
-use Rattle.type_terms.specs.Promised.Questions.{FitKinds, HoldUnknownsAlone, SolutionBy, IsProveAnswer, yes as answer_yes, filled, filled_reference}
+use Rattle.type_terms.specs.Promised.Questions.{FitKinds, HoldUnknownsAlone, SolutionBy, ProveAnswer, IsProveAnswer, yes as answer_yes, filled, filled_reference}
 use Rattle.sessions.specs.Clauses.{AddSupertraits}
 use Rattle.sessions.specs.Fitting.{sorts_in}
 use Rattle.sessions.specs.Goals.{goal_of, is_fixed, are_fixed}
 use Rattle.sessions.specs.Proved.{fact_with_values}
 use Rattle.sessions.specs.Promised.Given.{answer_in}
-use Rattle.sessions.specs.Promised.Promises.{AreForced, CoversSolutions, IsProved, view_in}
+use Rattle.sessions.specs.Promised.Promises.{AreForced, CoversSolutions, IsProved, IsProvedAlone, view_in}
+use Rattle.sessions.specs.Promised.Together.{SolutionOfAll, AreProved, all_asked}
 use Rattle.sessions.specs.Sessions.{IsSolvingOf}
-use Rattle.sessions.specs.Promised.OwnValues.{is_unknown, are_own, SpeakOfOwn}
-use Rattle.sessions.specs.Foreign.{is_unknown_term}
+use Rattle.sessions.specs.Promised.OwnValues.{is_unknown, are_own, SpeakOfOwn, SpeaksOfOwn}
+use Rattle.sessions.specs.Foreign.{are_own_terms, is_unknown_term}
 use Rattle.sessions.specs.Proving.{is_bound_term, HasUnknowns, speak_of_own, IsAnsweredBySolver, IsGoalAnswered}
 use Rattle.sessions.specs.Questions.{AreFixedReferences}
 use Rattle.sessions.specs.Promised.Subjects.{IsOfText}
@@ -200,7 +202,7 @@ clauses-proper : (F : List Reference) → AreFixedReferences F → IsProper (tre
 clauses-proper [] h = tt
 clauses-proper (r ∷ F) h = (proper r.args (made-leaves is_fixed terms r.args (left (are_fixed r.args) _ h)), clauses-proper F (right (are_fixed r.args) _ h))
 
-clauses-clean : (F : List Reference) → AreFixedReferences F → HasNoCanonical (trees_of_clauses F)
+pub clauses-clean : (F : List Reference) → AreFixedReferences F → HasNoCanonical (trees_of_clauses F)
 clauses-clean [] h = tt
 clauses-clean (r ∷ F) h = (clean-fixed r.args (args-fixed r.args (left (are_fixed r.args) _ h)), clauses-clean F (right (are_fixed r.args) _ h))
 
@@ -249,7 +251,7 @@ module _ (d : Declarations) (text : IsOfText d) (c : ℕ) (items : List Entry) (
   formed : IsFormedView V sorts
   formed = texts-views-are-formed text.0 d (text-given d text) c items decls seen
 
-  all-fixed : AreFixedReferences all
+  pub all-fixed : AreFixedReferences all
   all-fixed = all-are-fixed V sorts declared formed E each all (elaborated-formed V sorts declared formed E each)
 
   adds : AddSupertraits V (map erased_reference E) (map erased_reference all)
@@ -340,18 +342,32 @@ module _ (d : Declarations) (text : IsOfText d) (c : ℕ) (items : List Entry) (
         plain-there : some_node is_bound_term (resolved bs g.predicate) ≡ false → Plain y.args
         plain-there unbound = subst (λ (z : Reference). Plain z.args) (asked_closed fs t ready ty ct is) (children-plain (instance s g.predicate) (closed-plain unbound))
 
+        pub closed-proof : some_node is_bound_term (resolved bs g.predicate) ≡ false → Lists.FactHasProof Fact (FollowsByView V) (is_coinductive_fact V) closed
+            → HasProof (view_in d c) (map erased_reference E) y
+        closed-proof unbound p =
+            subst (λ (W : World). HasProof W (map erased_reference E) y) (sym view-is)
+            (plain-proof V declared begin erased cs (map erased_reference E) y (plain-there unbound)
+            (fewer y
+            (subst (λ zs. HasProof V zs y) closed-clauses
+            (subst (λ z. HasProof V (clauses_of closed.goal.environment) z) (asked_closed fs t ready ty ct is) (proofs-of-facts V closed refl (ap not (closed-plain unbound)) p)))))
+
         solution : some_node is_bound_term (resolved bs g.predicate) ≡ false → Lists.FactHasProof Fact (FollowsByView V) (is_coinductive_fact V) closed → HoldUnknownsAlone ts → Solved
         solution unbound p alone = record {
           values = closed_values fs t ready ty ct is;
           fitting = closed-fit fs t ready ty ct is ks;
           closed = closed-each ty ct is bs (unknowns_of ks) alone;
-          proved =
-              subst (λ (W : World). HasProof W (map erased_reference E) y) (sym view-is)
-              (plain-proof V declared begin erased cs (map erased_reference E) y (plain-there unbound)
-              (fewer y
-              (subst (λ zs. HasProof V zs y) closed-clauses
-              (subst (λ z. HasProof V (clauses_of closed.goal.environment) z) (asked_closed fs t ready ty ct is) (proofs-of-facts V closed refl (ap not (closed-plain unbound)) p)))));
+          proved = closed-proof unbound p;
         }
+
+      -- the reference with the values of the table
+      pub value-proof : some_node is_bound_term (resolved bs g.predicate) ≡ false → Lists.FactHasProof Fact (FollowsByView V) (is_coinductive_fact V) f
+          → HasProof (view_in d c) (map erased_reference E) x
+      value-proof unbound p =
+          subst (λ (W : World). HasProof W (map erased_reference E) x) (sym view-is)
+          (plain-proof V declared begin erased cs (map erased_reference E) x (plain-asked unbound)
+          (fewer x
+          (subst (λ zs. HasProof V zs x) clauses
+          (subst (λ y. HasProof V (clauses_of f.goal.environment) y) (asked fs t ready) (proofs-of-facts V f refl (ap not (all-plain (resolved bs g.predicate) unbound)) p)))))
 
       module _ (unbound : some_node is_bound_term (resolved bs g.predicate) ≡ false)
           (solved : (ty ct : Label) (is : IsGround ty ct) → Lists.FactHasProof Fact (FollowsByView V) (is_coinductive_fact V) (fact_under (closing fs t ready ty ct is) g)) where
@@ -367,15 +383,7 @@ module _ (d : Declarations) (text : IsOfText d) (c : ℕ) (items : List Entry) (
         forced = λ alone x only. alike-each bs (unknowns_of ks) (only (first alone) ∙ sym (only (second alone))) ∙ only (first alone)
 
         proved : Lists.FactHasProof Fact (FollowsByView V) (is_coinductive_fact V) f → IsProvedWith ts
-        proved p = (
-          (values-fill fs t ready ks).0,
-          subst (λ (W : World). HasProof W (map erased_reference E) x) (sym view-is)
-              (plain-proof V declared begin erased cs (map erased_reference E) x (plain-asked unbound)
-              (fewer x
-              (subst (λ zs. HasProof V zs x) clauses
-              (subst (λ y. HasProof V (clauses_of f.goal.environment) y) (asked fs t ready) (proofs-of-facts V f refl (ap not (all-plain (resolved bs g.predicate) unbound)) p))))),
-          (λ alone. first alone),
-        )
+        proved p = ((values-fill fs t ready ks).0, value-proof unbound p, (λ alone. first alone))
 
     values-are : (bs : List Binding) (xs : List Trees) → xs ≡ map (λ u. resolved bs u) (unknowns_from 0 0 ks) → map erase xs ≡ values_in bs ks
     values-are bs xs e = ap (map erase) e ∙ over (λ u. resolved bs u) erase (unknowns_from 0 0 ks)
@@ -407,14 +415,14 @@ module _ (ks : List Sort) (E : List Reference) (r : Reference) (own : is_made (i
   pub filled-args : (fs : List Entry) (t : Table) → Ready fs t → filled ks (values_in (content fs t.values) ks) (erase r.args) ≡ erase (resolved (content fs t.values) r.args)
   filled-args fs t ready = (values-fill fs t ready ks).1 r.args proper-args (known ks r.args good)
 
-  asked-with : (F : List Reference) (fs : List Entry) (t : Table) (ready : Ready fs t)
+  pub asked-with : (F : List Reference) (fs : List Entry) (t : Table) (ready : Ready fs t)
       → reference_in (fact_with_values (content fs t.values) (goal_of F r)) ≡ filled_reference ks (values_in (content fs t.values) ks) (erased_reference r)
   asked-with F fs t ready =
       ap (λ z. reference r.trait (children_of z)) (sym (themselves-read fs t ready (goal_of F r).predicate (proper-args, tt)))
       ∙ ap (reference r.trait) (themselves-read fs t ready r.args proper-args)
       ∙ ap (reference r.trait) (sym (filled-args fs t ready))
 
-  asked-closed : (F : List Reference) (fs : List Entry) (t : Table) (ready : Ready fs t) (ty ct : Label) (is : IsGround ty ct)
+  pub asked-closed : (F : List Reference) (fs : List Entry) (t : Table) (ready : Ready fs t) (ty ct : Label) (is : IsGround ty ct)
       → reference_in (fact_under (closing fs t ready ty ct is) (goal_of F r)) ≡ filled_reference ks (map (closed_value fs t ready ty ct is) (unknowns_of ks)) (erased_reference r)
   asked-closed F fs t ready ty ct is = ap (reference r.trait) (sym (closed-fill fs t ready ty ct is ks r.args proper-args (known ks r.args good)))
 
@@ -435,7 +443,7 @@ module _ (d : Declarations) (text : IsOfText d) (n : ℕ) (q : Question) (is : I
   pub own : is_made (is_own kinds) terms asked.args ≡ true
   own = (fixed text.0 d (text-given d text) (n - 1) q is.there of.entries of.declarations of.seen).own
 
-  each : (x : Reference) → In x E → IsFormedClause W (sorts_in of.declarations) x
+  pub each : (x : Reference) → In x E → IsFormedClause W (sorts_in of.declarations) x
   each = clause-formed text.0 d (text-given d text) (n - 1) q is.there of.entries of.declarations of.seen
 
   abbrev U : World
@@ -445,37 +453,64 @@ module _ (d : Declarations) (text : IsOfText d) (n : ℕ) (q : Question) (is : I
   unknown : some_node is_unknown (erase q.asked.args) ≡ true → some_node is_unknown_term asked.args ≡ true
   unknown u = sym (unknown-erased asked.args) ∙ ap (some_node is_unknown) (plain-erased q.asked.args) ∙ u
 
-  references-same : map erased_reference (asked ∷ E) ≡ erased_reference q.asked ∷ map erased_reference q.clauses
-  references-same = ap (λ z. reference q.asked.trait z ∷ map erased_reference E) (plain-erased q.asked.args) ∙ ap (λ zs. erased_reference q.asked ∷ zs) (clauses-erased q.clauses)
+  -- values that speak of what the view declares, of unknowns and of parameters that stand in references do so without lifetimes too
+  pub own-there : (rs : List Reference) (xs : List Trees) → are_own_terms W (unbound_references rs ++ E) xs ≡ true → are_own U (map erased_reference rs ++ map erased_reference q.clauses) (map erase xs) ≡ true
+  own-there rs xs h =
+      ap (λ zs. are_own U (map erased_reference rs ++ zs) (map erase xs)) (sym (clauses-erased q.clauses))
+      ∙ ap (λ zs. are_own U (zs ++ map erased_reference E) (map erase xs)) (sym (clauses-erased rs))
+      ∙ ap (λ zs. are_own U zs (map erase xs)) (sym (map-append erased_reference (unbound_references rs) E))
+      ∙ ap (λ (V : World). are_own V (map erased_reference (unbound_references rs ++ E)) (map erase xs)) (view-is d text q.asker of.entries of.declarations of.seen kinds E asked each)
+      ∙ own-erased (without_lifetimes W (view_in d q.asker).crates) W (undeclared-erased W (view_in d q.asker).crates) (unbound_references rs ++ E) xs ∙ h
 
-  -- the values speak of what the view declares, of unknowns and of the question's parameters, also without lifetimes
+  -- so do those of a question about one reference
   pub speaks : (es : List Entry) (values : Vec GenericArgKind) → (HasUnknowns q → speak_of_own (solving_of of.entries of.declarations) q es values.items ≡ true)
-      → SpeakOfOwn U (map erased_reference q.clauses) (erased_reference q.asked) (map (λ v. erase (arg_trees es v)) values.items)
+      → SpeakOfOwn U (map erased_reference q.clauses) (erased_reference q.asked ∷ []) (map (λ v. erase (arg_trees es v)) values.items)
   speaks es values own u =
-      let xs = map (arg_trees es) values.items in
       ap (are_own U (erased_reference q.asked ∷ map erased_reference q.clauses)) (sym (over (arg_trees es) erase values.items))
-      ∙ ap (λ rs. are_own U rs (map erase xs)) (sym references-same)
-      ∙ ap (λ (V : World). are_own V (map erased_reference (asked ∷ E)) (map erase xs)) (view-is d text q.asker of.entries of.declarations of.seen kinds E asked each)
-      ∙ own-erased (without_lifetimes W (view_in d q.asker).crates) W (undeclared-erased W (view_in d q.asker).crates) (asked ∷ E) xs ∙ own (unknown u)
+      ∙ own-there (q.asked ∷ []) (map (arg_trees es) values.items) (own (unknown (either (some_node is_unknown (erase q.asked.args)) u)))
+    where
+      either : (b : Bool) → b || false ≡ true → b ≡ true
+      either true h = refl
+      either false h = absurd (false-true h)
 
   -- of what is asked, up to lifetimes
   as-asked : (P : List Reference → Reference → Type 0) → P (map erased_reference E) (erased_reference asked) → P (map erased_reference q.clauses) (erased_reference q.asked)
   as-asked P h = subst (λ F. P F (erased_reference q.asked)) (clauses-erased q.clauses) (subst (P (map erased_reference E)) (ap (reference q.asked.trait) (plain-erased q.asked.args)) h)
 
+  -- what is promised of one reference alone
+  pub one-alone : (limit : ℕ) (a : ProveAnswer) → q.further ≡ [] → AreProved U kinds (map erased_reference q.clauses) (erased_reference q.asked ∷ []) a
+      → SpeaksOfOwn U (map erased_reference q.clauses) (erased_reference q.asked ∷ []) a → CoversSolutions U kinds (map erased_reference q.clauses) (erased_reference q.asked ∷ []) a
+      → IsProvedAlone limit U kinds (map erased_reference q.clauses) (erased_reference q.asked) a → IsProved limit d q a
+  one-alone limit a e proved own covers alone =
+      let same : erased_reference q.asked ∷ [] ≡ all_asked q = ap (λ rs. erased_reference q.asked ∷ map erased_reference rs) (sym e) in (
+        subst (λ rs. AreProved U kinds (map erased_reference q.clauses) rs a) same proved,
+        subst (λ rs. SpeaksOfOwn U (map erased_reference q.clauses) rs a) same own,
+        subst (λ rs. CoversSolutions U kinds (map erased_reference q.clauses) rs a) same covers,
+        λ _. alone,
+      )
+
+  -- a solution of one reference is one of all
+  as-all : (H : Reference → Type 0) (r : Reference) → SolutionBy H kinds r → SolutionOfAll H kinds (r ∷ [])
+  as-all H r sol = record { values = sol.values; fitting = sol.fitting; closed = sol.closed; proved = (sol.proved, tt) }
+
   -- such an answer is right, if it covers the solutions
-  pub yes : (limit depth : ℕ) (es : List Entry) (values : Vec GenericArgKind) → IsAnsweredBySolver s depth q es (Yes values)
-      → CoversSolutions U kinds (map erased_reference q.clauses) (erased_reference q.asked) (answer_in es (Yes values)) → IsProved limit d q (answer_in es (Yes values))
-  yes limit depth es values h covers =
+  pub yes : (limit depth : ℕ) (es : List Entry) (values : Vec GenericArgKind) → q.further ≡ [] → IsAnsweredBySolver s depth q es (Yes values)
+      → CoversSolutions U kinds (map erased_reference q.clauses) (erased_reference q.asked ∷ []) (answer_in es (Yes values)) → IsProved limit d q (answer_in es (Yes values))
+  yes limit depth es values e h covers =
       let told = subst (λ (x : Solving). IsAnsweredBySolver x depth q es (Yes values)) of.is h in
       let searched = subst (λ us. IsGoalAnswered (solving_of of.entries of.declarations) depth kinds (goal_of (elaborate W E) asked) us es (Yes values)) (own-are 0 0 q.variables) told.0 in
-      let clean = clean-own kinds asked.args (good kinds E asked own) in (
-        as-asked (λ F x. IsProveAnswer limit (view_in d q.asker) kinds F x (answer_in es (Yes values)))
-            (yes-proves d text q.asker of.entries of.declarations of.seen kinds E asked each clean (proper-args kinds E asked own)
-            (asked-with kinds E asked own (elaborate W E)) (asked-closed kinds E asked own (elaborate W E)) depth es values searched limit),
-        speaks es values told.1,
+      let clean = clean-own kinds asked.args (good kinds E asked own) in
+      let right =
+      as-asked (λ F x. IsProveAnswer limit (view_in d q.asker) kinds F x (answer_in es (Yes values)))
+      (yes-proves d text q.asker of.entries of.declarations of.seen kinds E asked each clean (proper-args kinds E asked own)
+      (asked-with kinds E asked own (elaborate W E)) (asked-closed kinds E asked own (elaborate W E)) depth es values searched limit) in
+      one-alone limit (answer_in es (Yes values)) e
+      (right.0, (right.1, tt), λ alone. as-all (HasProof U (map erased_reference q.clauses)) (erased_reference q.asked) (right.2 alone))
+      (speaks es values told.1)
+      covers (
+        right,
         as-asked (λ F x. AreForced (view_in d q.asker) kinds F x (answer_in es (Yes values)))
             (yes-forced d text q.asker of.entries of.declarations of.seen kinds E asked each clean (proper-args kinds E asked own)
             (asked-with kinds E asked own (elaborate W E)) (asked-closed kinds E asked own (elaborate W E)) depth es values searched),
-        covers,
         tt,
       )

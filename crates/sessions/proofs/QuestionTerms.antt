@@ -8,6 +8,7 @@ use Rattle.std.specs.Str.{bytes_eq}
 use Rattle.type_terms.specs.Promised.Label.{Label, Sort, of_lifetime, of_type, of_const, bool, char, str, never, array, slice, tuple, dynamic, static, int, uint, adt, fn_ptr, auto_trait, value, ref, raw_pointer, principal, param, placeholder, infer, canonical, bound, predicate}
 use Rattle.type_terms.specs.Promised.Trees.{Trees, none, tree, leaf, ◌+++◌}
 use Rattle.type_terms.specs.Trees.{is_no_tree}
+use Rattle.type_terms.specs.Promised.Proofs.{Every}
 use Rattle.type_terms.specs.Promised.Worlds.{Reference}
 use Rattle.type_terms.specs.Made.{terms, bounds, traits, is_made}
 use Rattle.type_terms.proofs.Made.{false-true, made-weaker}
@@ -380,8 +381,13 @@ map-twice [] = refl
 map-twice (v ∷ vs) = ap (λ ks. v.1 ∷ ks) (map-twice vs)
 
 -- ---- questions: what they ask for, and their where-clauses
+-- the trait reference has unknowns of these kinds alone
+abbrev pub IsOwnReference : List Sort → Reference → Type 0
+IsOwnReference ks r = is_made (is_own ks) terms (unbound_reference r).args ≡ true
+
 pub record AreFixedTerms (q : Question) : Type 0 where
-  pub own : is_made (is_own (variable_kinds q)) terms (unbound_reference q.asked).args ≡ true
+  pub own : IsOwnReference (variable_kinds q) q.asked
+  pub further : Every (IsOwnReference (variable_kinds q)) q.further
   pub clauses : list_all (λ (r : Reference). are_fixed r.args) (unbound_references q.clauses) ≡ true
 
 -- without variables what is asked for is fixed too
@@ -397,16 +403,22 @@ fits-rest : (d : Declarations) (l : Line) (us vs : List Use) → UsesFit d l (us
 fits-rest d l [] vs h = h
 fits-rest d l (u ∷ us) vs h = fits-rest d l us vs h.1
 
+each-own : (ks : List Sort) (rs : List Reference) → list_all (λ (r : Reference). is_made (is_own ks) terms r.args) (unbound_references rs) ≡ true → Every (IsOwnReference ks) rs
+each-own ks [] h = tt
+each-own ks (r ∷ rs) h = (and-left (is_made (is_own ks) terms (unbound_reference r).args) _ h, each-own ks rs (and-right (is_made (is_own ks) terms (unbound_reference r).args) _ h))
+
 -- the variables of what is asked for are the question's, each of one kind
-asked-own : (d : Declarations) (l : Line) (a : Clause) → ScalarClause a → UsesFit d l (clause_uses (with_own d l) a)
-    → list_any (λ v. list_any (is_of_other_kind v) (variables_in (clause_uses (with_own d l) a))) (variables_in (clause_uses (with_own d l) a)) ≡ false → (let vs = once (variables_in (clause_uses (with_own d l) a)) in
-    let asked = clause_reference (record { items = with_own d l; params = params_of l; first = 0; parameter = placeholder; variables = vs }) a in
-    is_made (is_own (map (λ v. v.kind) (map (λ v. (let x : Variable = record { text = v.0; kind = v.1 } in x)) vs))) terms (unbound_reference asked).args ≡ true)
-asked-own d l a scalar uses one =
-    let all = variables_in (clause_uses (with_own d l) a) in
+asked-own : (d : Declarations) (l : Line) (ks : List Clause) → ScalarClauses ks → UsesFit d l (flat_map (clause_uses (with_own d l)) ks)
+    → list_any (λ v. list_any (is_of_other_kind v) (variables_in (flat_map (clause_uses (with_own d l)) ks))) (variables_in (flat_map (clause_uses (with_own d l)) ks)) ≡ false
+    → (let vs = once (variables_in (flat_map (clause_uses (with_own d l)) ks)) in
+    Every (IsOwnReference (map (λ v. v.kind) (map (λ v. (let x : Variable = record { text = v.0; kind = v.1 } in x)) vs)))
+    (map (clause_reference (record { items = with_own d l; params = params_of l; first = 0; parameter = placeholder; variables = vs })) ks))
+asked-own d l ks scalar uses one =
+    let all = variables_in (flat_map (clause_uses (with_own d l)) ks) in
     let w = λ (s : Sort) (i : ℕ). ltb i (number_of s (kinds_of_all (once all))) in
-    subst (λ ks. is_made (is_own ks) terms (plain all_kept (clause_reference (means w d l (once all)) a).args) ≡ true) (map-twice (once all))
-    (good-clause w d l (once all) a scalar (all-fit w d l (once all) (clause_uses (with_own d l) a) uses (placed-stand d l all all (are-placed all all (λ n p h. h) one))))
+    subst (λ js. Every (IsOwnReference js) (map (clause_reference (means w d l (once all))) ks)) (map-twice (once all))
+    (each-own (kinds_of_all (once all)) (map (clause_reference (means w d l (once all))) ks)
+    (good-clauses w d l (once all) ks scalar (all-fit w d l (once all) (flat_map (clause_uses (with_own d l)) ks) uses (placed-stand d l all all (are-placed all all (λ n p h. h) one)))))
 
 line-fixed : (d : Declarations) (text : List ℕ) (l : Line) → IsWritten text l → fault_of d l ≡ None → Each AreFixedTerms d.questions → Each AreFixedTerms (added d l).questions
 line-fixed d text (crate_line n us) w f h = h
@@ -422,21 +434,24 @@ line-fixed d text (impl_line ps k ks) w f h = by d.in_section
     by false = h
 line-fixed d text (later_line n) w f h = h
 line-fixed d text (supers_line n) w f h = h
-line-fixed d text (prove_line c ps a ks) w f h =
-    let l = prove_line c ps a ks in
-    let vs = variables_in (clause_uses d a) in
-    let scalar = prove-scalars text c ps a ks w in
+line-fixed d text (prove_line c ps a bs ks) w f h =
+    let l = prove_line c ps a bs ks in
+    let us = flat_map (clause_uses d) (a ∷ bs) in
+    let vs = variables_in us in
+    let scalar = prove-scalars text c ps a bs ks w in
     let p = passes-tests d l f in
     let uses = (faultless-uses d l f).1 in
-    let others = all-fit none_stand d l (once vs) (flat_map (clause_uses d) ks) (fits-rest d l (clause_uses d a) (flat_map (clause_uses d) ks) uses) (none-there none_stand d l (once vs) _ (or-left _ _ p.has_asked_variables)) in
-    each-more AreFixedTerms d.questions (question_of d (question_meanings d l) false c ps a ks) h (record {
-      own = asked-own d l a scalar.0 (fits-first d l (clause_uses d a) (flat_map (clause_uses d) ks) uses) (or-right _ _ p.has_asked_variables);
+    let others = all-fit none_stand d l (once vs) (flat_map (clause_uses d) ks) (fits-rest d l us (flat_map (clause_uses d) ks) uses) (none-there none_stand d l (once vs) _ (or-left _ _ p.has_asked_variables)) in
+    let own = asked-own d l (a ∷ bs) scalar.0 (fits-first d l us (flat_map (clause_uses d) ks) uses) (or-right _ _ p.has_asked_variables) in
+    each-more AreFixedTerms d.questions (question_of d (question_meanings d l) false c ps a bs ks) h (record {
+      own = own.0;
+      further = own.1;
       clauses = fixed-references (unbound_references (map (clause_reference (question_meanings d l)) ks)) (good-clauses none_stand d l (once vs) ks scalar.1 others);
     })
-line-fixed d text (refute_line c ps a) w f h =
-    let l = refute_line c ps a in
-    each-more AreFixedTerms d.questions (question_of d (question_meanings d l) true c ps a []) h
-    (record { own = asked-own d l a (refute-scalars text c ps a w) (faultless-uses d l f).1 (passes-tests d l f).has_asked_variables; clauses = refl })
+line-fixed d text (refute_line c ps a bs) w f h =
+    let l = refute_line c ps a bs in
+    let own = asked-own d l (a ∷ bs) (refute-scalars text c ps a bs w) (faultless-uses d l f).1 (passes-tests d l f).has_asked_variables in
+    each-more AreFixedTerms d.questions (question_of d (question_meanings d l) true c ps a bs []) h (record { own = own.0; further = own.1; clauses = refl })
 
 -- ---- texts
 abbrev FixedIfTaken : {E : Type 0} → Result Declarations E → Type 0

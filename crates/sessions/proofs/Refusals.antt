@@ -75,7 +75,7 @@ module _ (applicable : AnswerTrees → Bool) (same : AnswerTrees → AnswerTrees
       S = given ks ts
 
       args-are : instance S (unbound_reference q.asked).args ≡ filled ks ts (erase q.asked.args)
-      args-are = instance-is ks ts fit shut (unbound_reference q.asked).args own ∙ ap (filled ks ts) (plain-erased q.asked.args)
+      args-are = instance-is ks ts fit shut (unbound_reference q.asked).args own.0 ∙ ap (filled ks ts) (plain-erased q.asked.args)
 
       unproved-at : proved_at p (filled_reference ks ts (erased_reference q.asked)) → ⊥
       unproved-at proof =
@@ -83,13 +83,13 @@ module _ (applicable : AnswerTrees → Bool) (same : AnswerTrees → AnswerTrees
           (record {
             place = p;
             no_clauses = refl;
-            no_placeholders = no-placeholders ks (unbound_reference q.asked) own;
+            no_placeholders = no-placeholders ks (unbound_reference q.asked) own.0;
           })
           S (given-sorted ks ts)
           (record {
             asks = refl;
             proper = refl;
-            closed = ap not (instance-shut ks ts fit shut (unbound_reference q.asked).args own);
+            closed = ap not (instance-shut ks ts fit shut (unbound_reference q.asked).args own.0);
             proof = subst (λ (r : Reference). proved_at p r) (sym (same-args q.asked.trait _ _ args-are)) proof;
           })
 

@@ -23,7 +23,7 @@ use Rattle.sessions.proofs.Refusals.{same-placed}
 abbrev with_crates : World → List CrateDecl → World
 with_crates V cs = record V { crates = cs }
 
-same-view : (V : World) (d : Declarations) (c : ℕ) → erased_world V ≡ rules_seen_from d c → with_crates (erased_world V) (view_in d c).crates ≡ view_in d c
+pub same-view : (V : World) (d : Declarations) (c : ℕ) → erased_world V ≡ rules_seen_from d c → with_crates (erased_world V) (view_in d c).crates ≡ view_in d c
 same-view V d c e = ap (λ (W : World). with_crates W (view_in d c).crates) e
 
 -- the goal, with unknowns of these kinds, by what crate c sees of the text

@@ -1,10 +1,12 @@
 -- Steps that were checked are a proof of the question's reference.
-use Rattle.std.proofs.Common.{◌≡◌, ◌∙◌, ℕ, List, [], Some, map, ap, sym, subst}
+use Rattle.std.proofs.Common.{◌≡◌, ◌∙◌, ℕ, zero, suc, ◌-◌, List, [], ◌∷◌, Some, map, refl, ap, sym, subst}
+use Rattle.std.proofs.lemmas.Option.{same_Some}
 use Rattle.std.specs.List.{slice_get}
 use Rattle.type_terms.specs.Promised.Erased.{erased_reference, erased_impl}
 use Rattle.type_terms.specs.Erased.{IsCovered}
 use Rattle.type_terms.specs.Promised.Label.{Sort}
 use Rattle.type_terms.specs.Promised.Trees.{Trees, erase}
+use Rattle.type_terms.specs.Promised.Proofs.{Every}
 use Rattle.type_terms.specs.Promised.Worlds.{World, Reference, ImplDecl}
 use Rattle.type_terms.specs.Promised.Handles.{Entry, Keeps}
 use Rattle.type_terms.proofs.ProofEntries.{map-in}
@@ -36,44 +38,66 @@ use Rattle.candidate_assembly.specs.Solving.{Solving}
 use Rattle.sessions.specs.Checking.{IsReadySolver, SolverStaysReady, rules_in}
 use Rattle.sessions.specs.Promised.Promises.{view_in}
 use Rattle.sessions.specs.Sessions.{IsSolvingOf}
-use Rattle.sessions.specs.Shown.{AreProofOfQuestion, IsResolved, IsShown}
+use Rattle.sessions.specs.Shown.{AreProofBy, IsResolved, IsShown}
 use Rattle.sessions.specs.Promised.Subjects.{IsOfText}
 use Rattle.sessions.specs.Values.{values_in}
 use Rattle.sessions.proofs.ProofsAside.{proof-aside}
 use Rattle.sessions.proofs.Filled.{values-fill}
 use Rattle.sessions.proofs.ProvedQuestions.{clauses-erased, own, filled-args}
+use Rattle.sessions.proofs.GivenTexts.{text-given}
+use Rattle.sessions.proofs.QuestionTerms.{AreFixedTerms, IsOwnReference}
+use Rattle.sessions.proofs.TextQuestions.{fixed}
 use Rattle.sessions.proofs.Refusals.{plain-erased}
 
 same-reference : (s t : ℕ) (x y : Trees) → s ≡ t → x ≡ y → (let r : Reference = record { trait = s; args = x } in r) ≡ (let r : Reference = record { trait = t; args = y } in r)
 same-reference s t x y e f = cc
 
-module _ (d : Declarations) (text : IsOfText d) (n : ℕ) (q : Question) (is : IsQuestion d n q) (s : Solving) (of : IsSolvingOf d q.asker s) where
+module _ (d : Declarations) (q : Question) (r : Reference) (own : IsOwnReference (variable_kinds q) r) where
   abbrev ks : List Sort
   ks = variable_kinds q
 
   abbrev E : List Reference
   E = map erased_reference q.clauses
 
-  asked-filled : (x : Reference) (h : IsResolved (unbound_reference q.asked) x)
-      → erased_reference x ≡ filled_reference ks (values_in (content h.entries h.table.values) ks) (erased_reference q.asked)
+  asked-filled : (x : Reference) (h : IsResolved (unbound_reference r) x)
+      → erased_reference x ≡ filled_reference ks (values_in (content h.entries h.table.values) ks) (erased_reference r)
   asked-filled x h =
       let ts = values_in (content h.entries h.table.values) ks in
-      same-reference x.trait q.asked.trait (erase x.args) (filled ks ts (erase q.asked.args)) h.trait
-      (ap erase h.args ∙ sym (filled-args ks [] (unbound_reference q.asked) (own d text n q is s of) h.entries h.table h.ready) ∙ ap (filled ks ts) (plain-erased q.asked.args))
+      same-reference x.trait r.trait (erase x.args) (filled ks ts (erase r.args)) h.trait
+      (ap erase h.args ∙ sym (filled-args ks [] (unbound_reference r) own h.entries h.table h.ready) ∙ ap (filled ks ts) (plain-erased r.args))
 
   pub shown-proof : (V : World) → V ≡ rules_seen_from d q.asker → (es : List Entry) (ss : List Step)
-      → IsShown es V (map erased_reference (unbound_references q.clauses)) (unbound_reference q.asked) ss → AreProofOfQuestion d q es ss
+      → IsShown es V (map erased_reference (unbound_references q.clauses)) (unbound_reference r) ss → AreProofBy (view_in d q.asker) q r es ss
   shown-proof V e es ss h =
       let ts = values_in (content h.resolved.entries h.resolved.table.values) ks in
-      let r = filled_reference ks ts (erased_reference q.asked) in
+      let x = filled_reference ks ts (erased_reference r) in
       let cs = (view_in d q.asker).crates in
       record {
         values = ts;
         fit = (values-fill h.resolved.entries h.resolved.table h.resolved.ready ks).0;
-        proof = subst (λ (W : World). AreProofOf es W E r ss) (ap (λ (W : World). record W { crates = cs }) e)
-            (proof-aside V cs es E r ss
-            (subst (λ x. AreProofOf es V E x ss) (asked-filled h.asked h.resolved) (subst (λ F. AreProofOf es V F (erased_reference h.asked) ss) (clauses-erased q.clauses) h.proof)));
+        proof = subst (λ (W : World). AreProofOf es W E x ss) (ap (λ (W : World). record W { crates = cs }) e)
+            (proof-aside V cs es E x ss
+            (subst (λ y. AreProofOf es V E y ss) (asked-filled h.asked h.resolved) (subst (λ F. AreProofOf es V F (erased_reference h.asked) ss) (clauses-erased q.clauses) h.proof)));
       }
+
+-- ---- a reference among those of a query
+-- what holds of the first and of each further one holds of the nth
+pub at-number : {A : Type 0} (P : A → Type 0) (x : A) (xs : List A) (n : ℕ) (y : A) → P x → Each P xs → slice_get (x ∷ xs) n ≡ Some y → P y
+at-number P x xs zero y h t e = subst P (same_Some x y e) h
+at-number P x [] (suc n) y h t e = absurd cc
+at-number P x (z ∷ zs) (suc n) y h t e = at-number P z zs n y t.0 t.1 e
+
+pub at-each : {A : Type 0} (P : A → Type 0) (x : A) (xs : List A) (n : ℕ) (y : A) → P x → Every P xs → slice_get (x ∷ xs) n ≡ Some y → P y
+at-each P x xs zero y h t e = subst P (same_Some x y e) h
+at-each P x [] (suc n) y h t e = absurd cc
+at-each P x (z ∷ zs) (suc n) y h t e = at-each P z zs n y t.0 t.1 e
+
+-- each of them has unknowns of the query's kinds alone
+pub own-at : (d : Declarations) → IsOfText d → (n : ℕ) (q : Question) → IsQuestion d n q → (s : Solving) → IsSolvingOf d q.asker s
+    → (k : ℕ) (r : Reference) → slice_get (q.asked ∷ q.further) k ≡ Some r → IsOwnReference (variable_kinds q) r
+own-at d text n q is s of k r e =
+    let all = fixed text.0 d (text-given d text) (n - 1) q is.there of.entries of.declarations of.seen in
+    at-each (IsOwnReference (variable_kinds q)) q.asked q.further k r all.own all.further e
 
 -- ---- what is declared
 -- the impls that are written well have their parameters in their headers

@@ -1,5 +1,4 @@
 -- What follows for a text as a whole if all its crates are accepted.
-use Rattle.std.specs.Prelude.{ℕ}
 use Rattle.type_terms.specs.Promised.LinkedSet.{HeadersHaveSupertraits}
 use Rattle.text_language.specs.Promised.Declarations.{Declarations}
 use Rattle.sessions.specs.Promised.CoherentTexts.{text_world, CratesAreAccepted, TextIsCoherent}
@@ -10,4 +9,4 @@ use Rattle.sessions.specs.Promised.Subjects.{IsOfText}
 -- implements `Sub`.
 abbrev pub AcceptedTextsAreCoherent : Type 0
 AcceptedTextsAreCoherent =
-    (d : Declarations) → IsOfText d → CratesAreAccepted d → HeadersHaveSupertraits (text_world d) → (limit : ℕ) → TextIsCoherent limit d
+    (d : Declarations) → IsOfText d → CratesAreAccepted d → HeadersHaveSupertraits (text_world d) → TextIsCoherent d

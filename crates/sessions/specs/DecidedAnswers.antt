@@ -1,6 +1,6 @@
--- What the solver answers to queries, apart from yes.
+-- What the solver answers to queries for one trait reference alone, apart from yes.
 use Rattle.std.specs.Global.{Vec}
-use Rattle.std.specs.Prelude.{ℕ, List}
+use Rattle.std.specs.Prelude.{◌≡◌, ℕ, List, []}
 use Rattle.type_terms.specs.Promised.Handles.{Entry}
 use Rattle.type_terms.specs.declared.kinds.GenericArgKind.{GenericArgKind}
 use Rattle.text_language.specs.Promised.Declarations.{Declarations, Question}
@@ -19,6 +19,6 @@ use Rattle.sessions.specs.declared.answers.ProveAnswer.TheVariants.{Unproved, Ma
 -- and the values of `Maybe` cover all solutions.
 abbrev pub OtherAnswersAreRight : Type 0
 OtherAnswersAreRight =
-    (d : Declarations) → IsOfText d → (n : ℕ) (q : Question) → IsQuestion d n q → (s : Solving) → IsSolvingOf d q.asker s → (depth : ℕ) (es : List Entry)
+    (d : Declarations) → IsOfText d → (n : ℕ) (q : Question) → IsQuestion d n q → q.further ≡ [] → (s : Solving) → IsSolvingOf d q.asker s → (depth : ℕ) (es : List Entry)
     → (IsAnsweredBySolver s depth q es Unproved → IsProved depth d q answers.unproved)
     × ((values : Vec GenericArgKind) → IsAnsweredBySolver s depth q es (Maybe values) → IsProved depth d q (answer_in es (Maybe values)))

@@ -1,6 +1,6 @@
 -- What values hold that is foreign to their question, as it is read off terms with lifetimes; and the visitors that look for it.
 use Rattle.std.specs.Global.{Vec}
-use Rattle.std.specs.Prelude.{◌≡◌, ◌⊎◌, Bool, true, false, not, ◌||◌, List, [], ◌∷◌, map}
+use Rattle.std.specs.Prelude.{◌≡◌, ◌⊎◌, Bool, true, false, not, ◌||◌, List, [], ◌∷◌, ◌++◌, map}
 use Rattle.std.specs.List.{list_all}
 use Rattle.type_terms.specs.Promised.Answers.{is_undeclared}
 use Rattle.type_terms.specs.Promised.Handles.{arg_trees}
@@ -75,6 +75,11 @@ pub record IsTakenBack (V : World) (r : Reference) (E : List Reference) (us : Li
 abbrev pub IsOwnAnswer : World → Reference → List Reference → List GenericArgKind → List Entry → ProveAnswer → ProveAnswer → Type 0
 IsOwnAnswer V r E us es a b =
     ((b ≡ a) × HasNoPreference E a × (some_node is_unknown_term r.args ≡ true → are_own_values V r E es a ≡ true)) ⊎ IsTakenBack V r E us es a b
+
+-- The same for the answer to references rs together.
+abbrev pub IsOwnAnswerOfAll : World → List Reference → List Reference → List GenericArgKind → List Entry → ProveAnswer → ProveAnswer → Type 0
+IsOwnAnswerOfAll V rs E us es a b =
+    ((b ≡ a) × HasNoPreference E a × (are_own_terms V (rs ++ E) (map (arg_trees es) (values_of_answer a)) ≡ true)) ⊎ IsMaybeWith us b
 
 -- The bounds of a `dyn` are no parameters, and no open places.
 pub bounds-are-no-params : (B : Type 0) (m : Label) (t : Trees) → IsBound t → BreaksAt {B = B} (at_root (λ l. is_same_param l m) t) Enter

@@ -36,6 +36,8 @@ pub mod Checking
 pub mod Proving
 pub mod Applying
 pub mod ProvedQuestions
+pub mod ProvingTogether
+pub mod TogetherLaws
 pub mod DecidedAnswers
 pub use Rattle.orphan_check.specs.Promised.Errors as HeldErrors
 pub use Rattle.type_terms.specs.Promised.OrphanErrors
@@ -49,6 +51,7 @@ pub mod FixedGoals
 pub use Rattle.candidate_assembly.specs as CandidateAssembly
 pub use Rattle.candidate_model.specs as CandidateModel
 pub use Rattle.declarations.specs as Declarations
+pub use Rattle.fulfillment.specs as Fulfillment
 pub use Rattle.goal_evaluator.specs as GoalEvaluator
 pub use Rattle.goal_frames.specs as GoalFrames
 pub use Rattle.infer_table.specs as InferTable

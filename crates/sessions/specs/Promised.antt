@@ -9,3 +9,4 @@ pub mod Promises
 pub mod Releases
 pub mod Shortages
 pub mod Subjects
+pub mod Together

@@ -1,5 +1,6 @@
 -- Steps that are a proof of a query's trait reference.
-use Rattle.std.specs.Prelude.{◌≡◌, List, map}
+use Rattle.std.specs.Prelude.{◌≡◌, ℕ, List, ◌∷◌, map, Some}
+use Rattle.std.specs.List.{slice_get}
 use Rattle.type_terms.specs.Promised.Erased.{erased_reference}
 use Rattle.type_terms.specs.Promised.Trees.{Trees}
 use Rattle.type_terms.specs.Promised.Worlds.{World, Reference}
@@ -13,16 +14,17 @@ use Rattle.text_language.specs.Promised.Declarations.{Declarations, Question}
 use Rattle.text_lowering.specs.Promised.Questions.{variable_kinds}
 use Rattle.sessions.specs.Promised.Promises.{view_in}
 
--- With values of their kinds for the query's variables, the steps are a proof of its trait reference by the rules of V, the query's
+-- With values of their kinds for the query's variables, the steps are a proof of its trait reference r by the rules of V, the query's
 -- where-clauses and what the steps assume.
-pub record AreProofBy (V : World) (q : Question) (es : List Entry) (ss : List Step) : Type 0 where
+pub record AreProofBy (V : World) (q : Question) (r : Reference) (es : List Entry) (ss : List Step) : Type 0 where
   pub values : List Trees
   pub fit : FitKinds (variable_kinds q) values
-  pub proof : AreProofOf es V (map erased_reference q.clauses) (filled_reference (variable_kinds q) values (erased_reference q.asked)) ss
+  pub proof : AreProofOf es V (map erased_reference q.clauses) (filled_reference (variable_kinds q) values (erased_reference r)) ss
 
--- V is what the query's crate sees of the text. So the answer `yes` with these values is right, if the steps assume nothing.
-abbrev pub AreProofOfQuestion : Declarations → Question → List Entry → List Step → Type 0
-AreProofOfQuestion d q es ss = AreProofBy (view_in d q.asker) q es ss
+-- V is what the query's crate sees of the text, and the trait reference is that with this number, counted from 0. So the answer `yes` with
+-- these values is right of it, if the steps assume nothing.
+abbrev pub AreProofOfBound : Declarations → Question → ℕ → List Entry → List Step → Type 0
+AreProofOfBound d q n es ss = (r : Reference) × (slice_get (q.asked ∷ q.further) n ≡ Some r) × AreProofBy (view_in d q.asker) q r es ss
 
 -- The second trait reference is the first with the values of some table.
 pub record IsResolved (r x : Reference) : Type 0 where

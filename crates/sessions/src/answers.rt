@@ -21,12 +21,12 @@ pub enum Verdict {
 /// The answer of a `prove` query.
 #[derive(Drop)]
 pub enum ProveAnswer {
-    /// The bound has a proof with these values for the query's variables, in their order. A variable without a value stands for itself.
+    /// Each bound has a proof with these values for the query's variables, in their order. A variable without a value stands for itself.
     Yes(Vec<GenericArgKind>),
     /// The search does not know. These values are what it knows of the query's variables, in their order. Without where-clauses and
-    /// parameters each solution is an instance of them. An unambiguous query never gets this answer.
+    /// parameters each solution is an instance of them. An unambiguous query for one bound never gets this answer.
     Maybe(Vec<GenericArgKind>),
-    /// The search found no proof. If the query is unambiguous, there is none.
+    /// The search found no proof of some bound. If the query is for one and unambiguous, there is none.
     Unproved,
 }
 
@@ -46,9 +46,9 @@ impl ProveAnswer {
 /// The answer of a `refute` query.
 #[derive(Clone, Copy, PartialEq, Eq)]
 pub enum RefuteAnswer {
-    /// The bound has no proof in any linked set with the crate, whatever its variables stand for.
+    /// The bounds have no proofs in any linked set with the crate, whatever their variables stand for: at least one of them has none.
     No,
-    /// The bound was not refused. If it is bounded, it is possible in the crate.
+    /// None was refused. If there is one alone, and it is bounded, it is possible in the crate.
     Open,
 }
 

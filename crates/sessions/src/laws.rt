@@ -29,6 +29,7 @@ ghost use Rattle.sessions.specs.AnsweredSets.{AnsweredSetsInAnyOrder, TextsObeyT
 ghost use Rattle.sessions.specs.CoherentTexts.{AcceptedTextsAreCoherent};
 ghost use Rattle.sessions.specs.Promised.CoherentTexts.{HeldTextsAreCoherent};
 ghost use Rattle.sessions.specs.Promised.Entailment.{YesHolds};
+ghost use Rattle.sessions.specs.TogetherLaws.{SeveralAreAnsweredRightly};
 ghost use Rattle.sessions.specs.JoinedTexts.{TextsAreJoined, TextsListInOrder};
 ghost use Rattle.sessions.specs.ScopedTexts.{ImplsAreInScope};
 ghost use Rattle.sessions.specs.WorkedSets.{CratesOfTwoTextsAreASet};
@@ -160,6 +161,13 @@ pub(crate) fn other_answers_are_right()
 /// query's bound has a proof by its where-clauses and by what its crate sees, up to lifetimes. If it has one solution alone, these are it.
 pub(crate) fn yes_is_proved()
     ensures { YesIsRight }
+{}
+
+// ---- several trait references
+
+/// What the solver answers to a query of a text without a fault about several trait references is right.
+pub(crate) fn several_are_answered_rightly()
+    ensures { SeveralAreAnsweredRightly }
 {}
 
 // ---- the where-clauses of queries can be elaborated

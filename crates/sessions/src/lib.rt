@@ -27,6 +27,7 @@ mod session;
 mod shown;
 mod supertraits;
 pub mod table;
+mod together;
 pub mod values;
 mod view;
 
@@ -50,11 +51,13 @@ pub use proving::{elaborate_in, goal_under, question_table_in};
 pub use seen_view::SeenView;
 pub use session::Session;
 pub use supertraits::{SupertraitGoals, own_goals_in};
+pub use together::{all_asked, obligations_for};
 pub use view::{declarations_are_ready, impls_are_numbered};
 
 // The crates below whose names the crates above need too: these list this crate alone.
 pub use candidate_assembly;
 pub use declarations;
+pub use fulfillment;
 pub use goal_evaluator;
 pub use infer_table;
 pub use orphan_check;

@@ -1,6 +1,6 @@
 //! How deep a session searches, and how many terms it stores.
 
-ghost use Rattle.std.specs.Prelude.{◌≡◌, ◌≤◌, ◌↔◌, IsSome, IfSome};
+ghost use Rattle.std.specs.Prelude.{◌≡◌, ◌≤◌, ◌+◌, ◌↔◌, IsSome, IfSome};
 
 /// The limits of a session. No call changes them.
 #[derive(Clone, Copy, PartialEq, Eq)]
@@ -27,5 +27,12 @@ impl Limits {
             return None;
         }
         Some(Limits { depth, handles })
+    }
+
+    /// How many answers to each trait reference of a query about several may have values: one more than the depth limit.
+    pub(crate) fn most_values(self) -> usize
+        ensures { result ≡ self.depth + 1 }
+    {
+        self.depth as usize + 1
     }
 }

@@ -1,6 +1,6 @@
 //! Whether the values of an answer speak of what their question may speak of.
 
-ghost use Rattle.std.specs.Prelude.{◌≡◌, ◌||◌, ◌&&◌, true, false, not, map, IfOk, List};
+ghost use Rattle.std.specs.Prelude.{◌≡◌, ◌||◌, ◌&&◌, ◌∷◌, true, false, not, map, IfOk, List};
 ghost use Rattle.type_terms.specs.Promised.Answers.{is_undeclared};
 ghost use Rattle.type_terms.specs.Promised.Handles.{ArgHeld, ArgsHeld, arg_trees, Entry};
 ghost use Rattle.type_terms.specs.Promised.Label.{of_type, of_const, placeholder};
@@ -12,7 +12,7 @@ ghost use Rattle.declarations.specs.Applied.{TraitRefsHeld, references_in};
 ghost use Rattle.declarations.specs.Held.{ReferenceHeld};
 ghost use Rattle.declarations.specs.Items.{reference_in, written};
 ghost use Rattle.sessions.specs.Promised.OwnValues.{is_same_param, occurs_among};
-ghost use Rattle.sessions.specs.Foreign.{HasNoPreference, HasPreference, IsMaybeWith, IsOwnAnswer, are_own_terms, is_foreign_term, is_unknown_term, label_of, question_in, strays};
+ghost use Rattle.sessions.specs.Foreign.{HasNoPreference, HasPreference, IsMaybeWith, IsOwnAnswer, IsOwnAnswerOfAll, are_own_terms, is_foreign_term, is_unknown_term, label_of, question_in, strays};
 ghost use Rattle.sessions.specs.Promised.Given.{AnswerValuesHeld, values_of_answer};
 
 use crate::answers::ProveAnswer;
@@ -150,7 +150,7 @@ fn references_hold(cx: &Interner, references: &[TraitRef], param: Param) -> bool
 struct Asked<'a> {
     /// What it asks for.
     reference: TraitRef,
-    /// Its where-clauses, as they are written.
+    /// What it asks for further, and its where-clauses, as they are written.
     clauses: &'a [TraitRef],
 }
 
@@ -445,6 +445,39 @@ pub(crate) fn own_answer(
         return variables_themselves(alloc, question);
     }
     if is_foreign(cx, declarations, asked, &answer) {
+        return variables_themselves(alloc, question);
+    }
+    Ok(answer)
+}
+
+/// The same for the answer to a question about several trait references. Its values may speak of parameters of each of them.
+///
+/// Fails only if memory is refused.
+pub(crate) fn own_answer_together(
+    alloc: Global,
+    cx: &Interner,
+    declarations: &Declarations,
+    question: &LoweredQuestion,
+    answer: ProveAnswer,
+) -> Result<ProveAnswer, AllocError>
+    requires answer { AnswerValuesHeld cx.now.entries answer }
+    requires reference { ReferenceHeld cx.now.entries question.now.asked }
+    requires further { TraitRefsHeld cx.now.entries question.now.further.items }
+    requires clauses { TraitRefsHeld cx.now.entries question.now.clauses.items }
+    ensures { let es = cx.now.entries in IfOk result
+        (IsOwnAnswerOfAll (written es declarations.now) (reference_in es question.now.asked ∷ references_in es question.now.further.items)
+        (references_in es question.now.clauses.items) question.now.unknowns.items es answer) }
+{
+    if has_preference(&answer, &question.clauses) {
+        return variables_themselves(alloc, question);
+    }
+    let mut others = Vec::from_slice(alloc, &question.further)?;
+    others.extend_from_slice(&question.clauses)?;
+    let asked = Asked {
+        reference: question.asked,
+        clauses: &others,
+    };
+    if !values_are_own(cx, declarations, asked, answer.values()) {
         return variables_themselves(alloc, question);
     }
     Ok(answer)

@@ -1,7 +1,7 @@
 //! `prove` queries: has a trait reference a proof, by what the crate sees and by the query's where-clauses? For
 //! `prove in a <T> V<T>: Show where T: Show` the goal is `V<!0>: Show` under `!0: Show`, with the supertraits of the clause.
 
-ghost use Rattle.std.specs.Prelude.{◌≡◌, map, IfOk, IfErr};
+ghost use Rattle.std.specs.Prelude.{◌≡◌, [], map, IfOk, IfErr};
 ghost use Rattle.type_terms.specs.Promised.Trees.{some_node};
 ghost use Rattle.type_terms.specs.Promised.Handles.{ArgsHeld, arg_trees};
 ghost use Rattle.type_terms.specs.Promised.Handles.{Has, Keeps, trees_at};
@@ -24,7 +24,8 @@ ghost use Rattle.candidate_assembly.specs.Fitting.{solving_of};
 ghost use Rattle.candidate_assembly.specs.SolverMeaning.{solver_by_view};
 ghost use Rattle.sessions.specs.Frames.{SettlesInFrames, QuestionInFrames};
 ghost use Rattle.sessions.specs.Promised.Given.{AnswerValuesHeld};
-ghost use Rattle.sessions.specs.Proving.{AreReadOff, ClausesApply, IsAnswered, IsAnsweredBySolver, IsAnsweredInSearch, IsGoalAnswered, SolverAdvances, SolverIsReady, SolvesTheSame, is_bound_term};
+ghost use Rattle.sessions.specs.Proving.{AreReadOff, ClausesApply, IsAnswered, IsAnsweredInSearch, IsGoalAnswered, SolverAdvances, SolverIsReady, SolvesTheSame, is_bound_term};
+ghost use Rattle.sessions.specs.ProvingTogether.{IsQuestionAnswered};
 ghost use Rattle.sessions.specs.Questions.{where_clauses};
 ghost use Rattle.sessions.specs.Resting.{AreAtRest};
 ghost use Rattle.sessions.specs.Sessions.{SolverRests};
@@ -35,6 +36,7 @@ use crate::asked::{lower_in, rest_laws};
 use crate::laws::references_are_goals;
 use crate::own_values::own_answer;
 use crate::table::question_table;
+use crate::together::{asks_several, prove_together};
 use crate::values::values_of;
 use candidate_assembly::solver::Solver;
 use goal_evaluator::TypingMode;
@@ -66,7 +68,7 @@ fn where_clauses(alloc: Global, references: &[TraitRef]) -> Result<Vec<Clause>, 
 }
 
 /// Whether a bound type or a bound constant occurs in the arguments.
-fn has_bound_terms(cx: &Interner, args: GenericArgs) -> bool
+pub(crate) fn has_bound_terms(cx: &Interner, args: GenericArgs) -> bool
     requires { Has cx.now.entries args_lists args.0 }
     ensures { result ≡ some_node is_bound_term (trees_at cx.now.entries args.0) }
 {
@@ -293,13 +295,14 @@ fn prove_lowered(
 }
 
 /// Answers the `prove` query with this number: its trait reference is evaluated outside coherence, under its where-clauses with all their
-/// supertraits, over a new table with its variables.
+/// supertraits, over a new table with its variables. Several are evaluated together, and at most `limit` answers to each may have values.
 ///
 /// Everything stays at rest, after a fault too. Fails with `Memory` if memory is refused, or with `Full` if a table is full.
 pub(crate) fn prove_question(
     search: &mut Search<Solver>,
     workspace: &Workspace,
     number: u32,
+    limit: usize,
 ) -> Result<ProveAnswer, Fault>
     requires rest { SolverRests search.old.graph.root_depth search.old.cx search.old.graph search.old.cache }
     requires question { (q : Question) × IsQuestion workspace.now number q }
@@ -310,15 +313,18 @@ pub(crate) fn prove_question(
     ensures limits { KeepsLimits search.old.cx search.new.cx }
     ensures held { IfOk result (AnswerValuesHeld search.new.cx.interner.entries) }
     ensures answer { IfOk result (λ a. (q : Question) → IsQuestion workspace.now number q
-        → IsAnsweredBySolver (solving_of search.old.cx.interner.entries search.old.cx.handler.declarations) search.old.graph.root_depth q
+        → IsQuestionAnswered (solving_of search.old.cx.interner.entries search.old.cx.handler.declarations) search.old.graph.root_depth q
         search.new.cx.interner.entries a) }
-    ensures frames { (q : Question) → IsQuestion workspace.now number q
+    ensures frames { (q : Question) → IsQuestion workspace.now number q → q.further ≡ []
         → QuestionInFrames (solving_of search.old.cx.interner.entries search.old.cx.handler.declarations) search.old.graph.root_depth q
         search.old.graph search.new.graph }
     ensures full { IfErr result (ContextFullAtLimit search.new.cx) }
 {
     rest_laws::<Solver>();
     let lowered = lower_in(&mut search.cx, workspace, number)?;
+    if asks_several(&lowered) {
+        return prove_together(search, &lowered, limit);
+    }
     let answer = prove_lowered(search, &lowered)?;
     let own = own_answer(
         search.cx.alloc,

@@ -16,6 +16,7 @@ ghost use Rattle.text_lowering.specs.Questions.{IsLowered};
 ghost use Rattle.text_lowering.specs.QuestionVariables.{HasVariablesAlone};
 ghost use Rattle.sessions.specs.Asking.{HasNoProof, IsLeftOpen, IsRefusedAlone, goal_alone};
 ghost use Rattle.sessions.specs.Frames.{StartsFramesOfOne};
+ghost use Rattle.sessions.specs.ProvingTogether.{AreRefused};
 ghost use Rattle.pair_checks.specs.Impossible.{IsNoRefusal};
 ghost use Rattle.sessions.specs.Resting.{AreAtRest};
 ghost use Rattle.solver_graph.specs.Contexts.{KeepsLimits};
@@ -24,6 +25,7 @@ ghost use Rattle.solver_graph.specs.Shortages.{ContextFullAtLimit};
 use crate::answers::RefuteAnswer;
 use crate::asked::{lower_in, rest_laws};
 use crate::proving::question_table_in;
+use crate::together::{asks_several, refute_together};
 use goal_evaluator::TypingMode;
 use goal_frames::GoalHandler;
 use infer_table::goal::Goal;
@@ -119,12 +121,14 @@ fn refute_lowered<H: GoalHandler>(
 }
 
 /// Answers the `refute` query with this number: its trait reference is evaluated in coherence, over a new table with its variables.
+/// Several are evaluated together, and at most `limit` answers to each may have values.
 ///
 /// Everything stays at rest, after a fault too. Fails with `Memory` if memory is refused, or with `Full` if a table is full.
 pub(crate) fn refute_question<H: GoalHandler>(
     search: &mut Search<H>,
     workspace: &Workspace,
     number: u32,
+    limit: usize,
 ) -> Result<RefuteAnswer, Fault>
     requires rest { AreAtRest H.meaning search.old.graph.root_depth search.old.cx search.old.graph search.old.cache }
     requires question { (q : Question) × IsQuestion workspace.now number q }
@@ -136,19 +140,24 @@ pub(crate) fn refute_question<H: GoalHandler>(
 
     // The trait reference is made as an interner's terms are.
     ensures made { OnOk result ((q : Question) → IsQuestion workspace.now number q → is_made is_in_range terms (unbound_reference q.asked).args ≡ true) }
-    ensures no { result ≡ Ok RefuteAnswer.No → (q : Question) → IsQuestion workspace.now number q → HasVariablesAlone q
+    ensures no { result ≡ Ok RefuteAnswer.No → (q : Question) → IsQuestion workspace.now number q → q.further ≡ [] → HasVariablesAlone q
         → HasNoProof (H.meaning.goals.handled (H.meaning.world search.old.cx.handler search.old.cx.interner.entries)) (goal_alone (unbound_reference q.asked)) }
-    ensures refused { result ≡ Ok RefuteAnswer.No → (q : Question) → IsQuestion workspace.now number q
+    ensures refused { result ≡ Ok RefuteAnswer.No → (q : Question) → IsQuestion workspace.now number q → q.further ≡ []
         → IsRefusedAlone H.meaning (H.meaning.world search.old.cx.handler search.old.cx.interner.entries) search.old.graph.root_depth
         (unbound_reference q.asked) }
-    ensures open { result ≡ Ok RefuteAnswer.Open → (q : Question) → IsQuestion workspace.now number q
+    ensures open { result ≡ Ok RefuteAnswer.Open → (q : Question) → IsQuestion workspace.now number q → q.further ≡ []
         → IsLeftOpen H.meaning (H.meaning.world search.old.cx.handler search.old.cx.interner.entries) search.old.graph.root_depth (unbound_reference q.asked) }
-    ensures frames { (q : Question) → IsQuestion workspace.now number q
+    ensures together { result ≡ Ok RefuteAnswer.No → (q : Question) → IsQuestion workspace.now number q → (q.further ≡ [] → ⊥)
+        → AreRefused H.meaning (H.meaning.world search.old.cx.handler search.old.cx.interner.entries) search.old.graph.root_depth q }
+    ensures frames { (q : Question) → IsQuestion workspace.now number q → q.further ≡ []
         → StartsFramesOfOne H.meaning (H.meaning.world search.old.cx.handler search.old.cx.interner.entries) (unbound_reference q.asked)
         search.old.graph search.new.graph }
     ensures full { IfErr result (ContextFullAtLimit search.new.cx) }
 {
     rest_laws::<H>();
     let lowered = lower_in(&mut search.cx, workspace, number)?;
+    if asks_several(&lowered) {
+        return refute_together(search, &lowered, limit);
+    }
     refute_lowered(search, &lowered)
 }

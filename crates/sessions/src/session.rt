@@ -1,6 +1,6 @@
 //! Sessions: checks and queries of one crate.
 
-ghost use Rattle.std.specs.Prelude.{◌≡◌, ◌<◌, ◌≤◌, ◌+◌, ℕ, true, length, IfOk, IfErr, IfSome, IsOk, OnOk, Ok, Err};
+ghost use Rattle.std.specs.Prelude.{◌≡◌, ◌<◌, ◌≤◌, ◌+◌, ℕ, true, length, IfOk, IfErr, IfSome, OnOk, Ok, Err};
 ghost use Rattle.type_terms.specs.Promised.Handles.{SomeKindIsFull};
 ghost use Rattle.type_terms.specs.Promised.Handles.{ArgsHeld};
 ghost use Rattle.type_terms.specs.declared.TheConstants.{MAX_INDEX};
@@ -23,7 +23,7 @@ ghost use Rattle.sessions.specs.Promised.Promises.{IsProved, IsRefutation, IsVer
 ghost use Rattle.sessions.specs.Promised.Releases.{AddedImplsBreakNoUser, IsSectionOf, IsLaterAnswer, IsSupersAnswer, OldProofsStay};
 ghost use Rattle.sessions.specs.LeftSessions.{IsLeftSession};
 ghost use Rattle.sessions.specs.SeenViews.{IsLeftView, IsViewOf};
-ghost use Rattle.sessions.specs.Shown.{AreProofOfQuestion};
+ghost use Rattle.sessions.specs.Shown.{AreProofOfBound};
 ghost use Rattle.sessions.specs.Promised.Shortages.{SessionFullAtLimit};
 ghost use Rattle.sessions.specs.Supertraits.{IsCheckedAt};
 ghost use Rattle.sessions.specs.Promised.Subjects.{IsOfText, AsksProof, AsksRefutation, StaysOn};
@@ -35,7 +35,7 @@ use crate::fixed_goals::FixedAnswers;
 use crate::later::{added_impls_break_no_user, later_answer, old_answers_stay};
 use crate::laws::{
     answered_sets_are_linked, clauses_apply, held_texts_are_coherent, impls_apply,
-    other_answers_are_right, yes_holds_in_linked_sets, yes_is_proved,
+    other_answers_are_right, several_are_answered_rightly, yes_holds_in_linked_sets, yes_is_proved,
 };
 use crate::left_session::LeftSession;
 use crate::limits::Limits;
@@ -140,7 +140,7 @@ impl<'w> Session<'w> {
         ensures full { result ≡ Err Fault.Full → limits.handles ≤ most_terms workspace.now crate_id.index }
     {
         let view = SeenView::new(alloc, workspace, crate_id, limits.handles)?;
-        Session::on_view(alloc, workspace, limits, view)
+        Ok(Session::on_view(alloc, workspace, limits, view))
     }
 
     /// A session for a crate of a text that begins with the view that the session of another crate left (`into_view`).
@@ -171,7 +171,7 @@ impl<'w> Session<'w> {
         ensures full { result ≡ Err Fault.Full → limits.handles ≤ length view.interner.entries + most_terms workspace.now crate_id.index }
     {
         let seen = view.handed_on(alloc, workspace, crate_id, limits.handles)?;
-        Session::on_view(alloc, workspace, limits, seen)
+        Ok(Session::on_view(alloc, workspace, limits, seen))
     }
 
     /// A session for a crate of a text: `behind` if there is a view of another crate, and `new` otherwise. The errors are those of either.
@@ -198,20 +198,14 @@ impl<'w> Session<'w> {
     }
 
     /// A session for the crate that sees the view. It takes no memory yet.
-    fn on_view(
-        alloc: Global,
-        workspace: &'w Workspace,
-        limits: Limits,
-        view: SeenView,
-    ) -> Result<Self, Fault>
+    fn on_view(alloc: Global, workspace: &'w Workspace, limits: Limits, view: SeenView) -> Self
         requires parsed { IsOfText workspace.now }
         requires view { IsViewOf workspace.now view.crate_id.index limits.handles view }
-        ensures made { IsOk result }
-        ensures declarations { IfOk result (λ session. session.declarations ≡ workspace.now) }
-        ensures of_crate { IfOk result (λ session. session.of_crate ≡ view.crate_id.index) }
-        ensures depth { IfOk result (λ session. session.depth ≡ limits.depth) }
-        ensures handles { IfOk result (λ session. session.handles ≡ limits.handles) }
-        ensures frames { IfOk result (λ session. session.frames ≡ 0) }
+        ensures declarations { result.declarations ≡ workspace.now }
+        ensures of_crate { result.of_crate ≡ view.crate_id.index }
+        ensures depth { result.depth ≡ limits.depth }
+        ensures handles { result.handles ≡ limits.handles }
+        ensures frames { result.frames ≡ 0 }
     {
         let graph = SearchGraph::new(alloc, limits.depth as usize);
         let cache = GlobalCache::new(alloc);
@@ -219,13 +213,13 @@ impl<'w> Session<'w> {
         let (interner, declarations, frames_before) = view.into_parts();
         let solver = Solver::new(declarations);
         let cx = SolverCx::new(alloc, interner, solver, limits.handles);
-        Ok(Session {
+        Session {
             workspace,
             crate_id,
             limits,
             search: Search { graph, cache, cx },
             frames_before,
-        })
+        }
     }
 
     /// A session for a crate of a text that goes on where an earlier one stopped, if there is one (`leave`).
@@ -525,7 +519,8 @@ impl<'w> Session<'w> {
         ensures one_impl { AnsweredSetsAreCoherent }
         ensures coherent { HeldTextsAreCoherent }
 
-        // In each linked set with a crate that answered, what got `no` has no solution, and the where-clauses of what got `yes` entail it.
+        // In each linked set with a crate that answered, what got `no` has no solution, and the where-clauses of what got `yes` entail it. Of
+        // several trait references the answer `no` itself says so.
         ensures everywhere { AnswersHoldEverywhere }
         ensures entailed { InEveryLinkedSet YesHolds }
         ensures answer { IfOk result (λ a. IsSupersAnswer self.old.depth self.old.declarations self.old.of_crate (supers_answer_of a)) }
@@ -569,32 +564,43 @@ impl<'w> Session<'w> {
     /// If the reference has no variables, and its chains of premises are shorter than the depth, `Unproved` says that it has no proof, and
     /// `Maybe` that it has one. Then at some step several impls or built-in rules have premises with proofs, or several where-clauses
     /// with lifetimes are equal up to these. Of a question without where-clauses and parameters `Unproved` says that it has no solution by
-    /// what the crate sees. The fault is `Memory` where memory is refused, or `Full` where a table of the session is full.
+    /// what the crate sees, and the values of the other answers cover all solutions.
+    ///
+    /// A question about several references has one answer for all of them: with the values of `Yes` each has a proof. They are asked in the
+    /// order in which they are written, again and again, until nothing new is fixed.
+    ///
+    /// The fault is `Memory` where memory is refused, or `Full` where a table of the session is full.
     ///
     /// `evaluate_root_goal` in a `ParamEnv` of elaborated clauses, as `predicate_may_hold` and `type_implements_trait` ask it outside coherence.
     pub fn prove(&mut self, number: u32) -> Result<ProveAnswer, Fault>
         requires { (q : Question) × AsksProof self.old.declarations self.old.of_crate number q }
 
-        // With the values of `Yes` there is a proof, and if there is one solution alone they are it. Without variables, and within the depth,
-        // `Unproved` has no proof, `Maybe` has one, and there is no `Maybe` if there are few rules at each step. Without where-clauses and
-        // parameters `Unproved` has no solution.
+        // With the values of `Yes` there are proofs. Without where-clauses and parameters `Unproved` has no solution. Of one reference alone, if
+        // there is one solution alone the values are it, and without variables, and within the depth, `Unproved` has no proof, `Maybe` has
+        // one, and there is no `Maybe` if there are few rules at each step.
         ensures answer { (q : Question) → AsksProof self.old.declarations self.old.of_crate number q
             → IfOk result (λ a. IsProved self.old.depth self.old.declarations q (answer_in self.new.terms a)) }
         ensures held { IfOk result (AnswerValuesHeld self.new.terms) }
         ensures stays { StaysOn self.old self.new }
 
-        // The frames are those of at most eight evaluations, after a fault too.
+        // Of one reference the frames are those of at most eight evaluations, after a fault too.
         ensures frames { (q : Question) → AsksProof self.old.declarations self.old.of_crate number q → ProvesInFrames self.old q self.new }
         ensures full { IfErr result (SessionFullAtLimit self.new) }
     {
         clauses_apply();
         yes_is_proved();
         other_answers_are_right();
-        prove_question(&mut self.search, self.workspace, number)
+        several_are_answered_rightly();
+        prove_question(
+            &mut self.search,
+            self.workspace,
+            number,
+            self.limits.most_values(),
+        )
     }
 
-    /// Whether steps are a proof of the trait reference of a `prove` query of this crate: by what the crate sees, by the query's
-    /// where-clauses, and by what the steps assume. Queries count from 1.
+    /// Whether steps are a proof of a trait reference of a `prove` query of this crate: by what the crate sees, by the query's where-clauses,
+    /// and by what the steps assume. Queries count from 1, and their trait references from 0.
     ///
     /// The steps and the values may come from anyone. `true` says that the steps prove the trait reference with some values of the
     /// variables' kinds, which need not be the given ones. A step that is assumed counts as one more where-clause. If none is assumed, this
@@ -604,6 +610,7 @@ impl<'w> Session<'w> {
     pub fn is_proof_of(
         &mut self,
         number: u32,
+        bound: usize,
         values: &[GenericArgKind],
         steps: &[Step],
     ) -> Result<bool, Fault>
@@ -611,19 +618,27 @@ impl<'w> Session<'w> {
         requires values { ArgsHeld self.old.terms values.now }
         requires steps { Each (StepHeld self.old.terms) steps.now }
         ensures proof { (q : Question) → AsksProof self.old.declarations self.old.of_crate number q
-            → IfOk result (λ b. b ≡ true → AreProofOfQuestion self.old.declarations q self.old.terms steps.now) }
+            → IfOk result (λ b. b ≡ true → AreProofOfBound self.old.declarations q bound self.old.terms steps.now) }
         ensures stays { StaysOn self.old self.new }
         ensures frames { self.new.frames ≡ self.old.frames }
     {
         rest_laws::<Solver>();
-        is_proof_of_question(&mut self.search.cx, self.workspace, number, values, steps)
+        is_proof_of_question(
+            &mut self.search.cx,
+            self.workspace,
+            number,
+            bound,
+            values,
+            steps,
+        )
     }
 
     /// Whether the trait reference of a `refute` query of this crate is refused: it has no proof in any linked set with the crate, whatever
     /// its variables stand for. Queries count from 1.
     ///
     /// It is evaluated once, in coherence and without where-clauses. If it has no variables, and its chains of premises are shorter than
-    /// the depth, it is refused exactly if it is not possible in the crate.
+    /// the depth, it is refused exactly if it is not possible in the crate. Several are refused together: whatever their variables stand for,
+    /// one of them has no proof.
     ///
     /// Fails with `Memory` if memory is refused, or with `Full` if a table of the session is full.
     pub fn refute(&mut self, number: u32) -> Result<RefuteAnswer, Fault>
@@ -634,11 +649,16 @@ impl<'w> Session<'w> {
             → IfOk result (λ a. IsRefutation self.old.depth self.old.declarations q (refutation_of a)) }
         ensures stays { StaysOn self.old self.new }
 
-        // The frames are those of one evaluation, after a fault too.
+        // Of one trait reference the frames are those of one evaluation, after a fault too.
         ensures frames { (q : Question) → AsksRefutation self.old.declarations self.old.of_crate number q → RefutesInFrames self.old q self.new }
         ensures full { IfErr result (SessionFullAtLimit self.new) }
     {
         refutations_have_variables_alone();
-        refute_question(&mut self.search, self.workspace, number)
+        refute_question(
+            &mut self.search,
+            self.workspace,
+            number,
+            self.limits.most_values(),
+        )
     }
 }

@@ -1,8 +1,10 @@
 //! Steps that are given as a proof of a query's trait reference, checked.
 
-ghost use Rattle.std.specs.Prelude.{◌≡◌, true, map, IfOk};
+ghost use Rattle.std.specs.Prelude.{◌≡◌, ◌∷◌, true, map, IfOk, Some};
+ghost use Rattle.std.specs.List.{slice_get};
 ghost use Rattle.type_terms.specs.Promised.Erased.{erased_reference};
 ghost use Rattle.type_terms.specs.Promised.Handles.{ArgHeld, ArgsHeld};
+ghost use Rattle.type_terms.specs.Promised.Worlds.{Reference};
 ghost use Rattle.type_terms.specs.Growth.{Grew};
 ghost use Rattle.declarations.specs.Applied.{TraitRefsHeld};
 ghost use Rattle.declarations.specs.Held.{ReferenceHeld};
@@ -27,6 +29,7 @@ use proof_checker::checker::is_proof_of;
 use proof_checker::steps::Step;
 use solver_graph::SolverCx;
 use term_folds::predicate::TraitRef;
+use text_lowering::LoweredQuestion;
 use text_tables::Workspace;
 use type_terms::Fault;
 use type_terms::interner::Interner;
@@ -181,13 +184,25 @@ fn is_proof_under(
     is_proof_in(cx, clauses, instance, steps)
 }
 
-/// Whether steps are a proof of the trait reference of the query with this number, with these values for its variables as far as they fit.
+/// The trait reference of the query with this number, counted from 0, if there is one.
+fn bound_at(question: &LoweredQuestion, bound: usize) -> Option<TraitRef>
+    ensures { result ≡ slice_get (question.now.asked ∷ question.now.further.items) bound }
+{
+    match bound.checked_sub(1) {
+        None => Some(question.asked),
+        Some(place) => question.further.get(place).copied(),
+    }
+}
+
+/// Whether steps are a proof of the trait reference with this number, counted from 0, of the query with this number, with these values for
+/// the query's variables as far as they fit. If there is none, they are not.
 ///
 /// Everything stays ready, after a fault too. Fails with `Memory` if memory is refused, or with `Full` if a table is full.
 pub(crate) fn is_proof_of_question(
     cx: &mut SolverCx<Solver>,
     workspace: &Workspace,
     number: u32,
+    bound: usize,
     values: &[GenericArgKind],
     steps: &[Step],
 ) -> Result<bool, Fault>
@@ -197,13 +212,17 @@ pub(crate) fn is_proof_of_question(
     requires steps { Each (StepHeld cx.old.interner.entries) steps.now }
     ensures advances { SolverStaysReady cx.old cx.new }
     ensures proof { (q : Question) → IsQuestion workspace.now number q → IfOk result (λ b. b ≡ true
-        → IsShown cx.old.interner.entries (rules_in cx.old) (map erased_reference (unbound_references q.clauses)) (unbound_reference q.asked) steps.now) }
+        → (r : Reference) × (slice_get (q.asked ∷ q.further) bound ≡ Some r)
+        × IsShown cx.old.interner.entries (rules_in cx.old) (map erased_reference (unbound_references q.clauses)) (unbound_reference r) steps.now) }
 {
     let lowered = lower_in(cx, workspace, number)?;
+    let Some(asked) = bound_at(&lowered, bound) else {
+        return Ok(false);
+    };
     is_proof_under(
         cx,
         &lowered.clauses,
-        lowered.asked,
+        asked,
         &lowered.unknowns,
         values,
         steps,

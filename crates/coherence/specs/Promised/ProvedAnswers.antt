@@ -2,14 +2,16 @@
 use Rattle.std.specs.Prelude.{◌≡◌, ℕ, true, false, List, ◌++◌, map, codes}
 use Rattle.std.specs.Fmt.{decimal}
 use Rattle.sessions.specs.TypeTerms.Promised.Erased.{erased_reference}
+use Rattle.sessions.specs.TypeTerms.Promised.Proofs.{Every}
 use Rattle.sessions.specs.TypeTerms.Promised.Renumbering.{renumbered_reference}
 use Rattle.sessions.specs.Verdicts.{InEverySetWith}
-use Rattle.sessions.specs.QuestionAnswers.{ProveAnswer, yes, maybe, unproved, RefuteAnswer, no, unrefuted, filled_reference}
+use Rattle.sessions.specs.QuestionAnswers.{ProveAnswer, yes, maybe, unproved, RefuteAnswer, no, unrefuted}
 use Rattle.sessions.specs.TextQuestions.{variable_kinds}
 use Rattle.sessions.specs.TextLanguage.Promised.Declarations.{Declarations, Question}
 use Rattle.sessions.specs.TextLanguage.Promised.PrintedTypes.{yes_values_text}
 use Rattle.sessions.specs.Promised.Entailment.{Entails}
 use Rattle.sessions.specs.Promised.Promises.{view_in, IsProved, IsRefutation}
+use Rattle.sessions.specs.Promised.Together.{all_asked, filled_references}
 
 -- What comes after `prove N: `.
 abbrev pub proved_text : Declarations → Question → ProveAnswer → List ℕ
@@ -22,11 +24,11 @@ abbrev pub refuted_text : RefuteAnswer → List ℕ
 refuted_text no = codes "no"
 refuted_text unrefuted = codes "open"
 
--- In each linked set with the crate, the where-clauses of the query entail its trait reference with the values of a `yes`.
+-- In each linked set with the crate, the where-clauses of the query entail each of its trait references with the values of a `yes`.
 abbrev pub IsEntailedInSets : Declarations → Question → ProveAnswer → Type 0
 IsEntailedInSets d q (yes ts) =
-    InEverySetWith (view_in d q.asker) q.asker (λ W ρ. Entails W (map (renumbered_reference ρ) (map erased_reference q.clauses))
-    (renumbered_reference ρ (filled_reference (variable_kinds q) ts (erased_reference q.asked))))
+    InEverySetWith (view_in d q.asker) q.asker (λ W ρ. Every (λ r. Entails W (map (renumbered_reference ρ) (map erased_reference q.clauses)) (renumbered_reference ρ r))
+    (filled_references (variable_kinds q) ts (all_asked q)))
 IsEntailedInSets d q a = Unit {0}
 
 -- The line of query number n, counted from 1, writes an answer that is right.

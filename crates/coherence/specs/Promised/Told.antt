@@ -89,4 +89,4 @@ SupertraitsStand d ls = HeadersHaveSupertraits (text_world d)
 abbrev pub AcceptedTextsHold : (Declarations → List (List ℕ) → Type 0) → Type 0
 AcceptedTextsHold P =
     (limit : ℕ) (bytes : List ℕ) (d : Declarations) (ls : List (List ℕ)) → TextSays bytes (Ok d) → AllZip (TellsTopic limit) (topics (Ok d)) ls → AllSayAccepted d ls → P d ls
-    → TextIsCoherent limit d
+    → TextIsCoherent d

@@ -42,6 +42,7 @@ pub record IsAnsweredSet (W : World) (vs : List View) (rank : ℕ → ℕ) : Typ
 abbrev pub AnsweredSetsAreLinked : Type 0
 AnsweredSetsAreLinked = (W : World) (vs : List View) (rank : ℕ → ℕ) → IsAnsweredSet W vs rank → LinkedSet W vs rank
 
--- So no closed reference has proofs by two impls in it, and what was answered of its crates holds in it.
+-- So no closed reference has proofs by two impls in it, and what was answered of its crates about one trait reference holds in it. What is
+-- answered about several speaks of each linked set itself (`AreRefuted`, `YesHolds`).
 abbrev pub AnsweredSetsAreCoherent : Type 0
 AnsweredSetsAreCoherent = (W : World) (vs : List View) (rank : ℕ → ℕ) → IsAnsweredSet W vs rank → (limit : ℕ) → Headline W vs × AnswersHold limit W vs

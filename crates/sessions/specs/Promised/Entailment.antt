@@ -6,7 +6,8 @@ use Rattle.type_terms.specs.Promised.Worlds.{World, Reference}
 use Rattle.type_terms.specs.Promised.Proofs.{Every, HasProof}
 use Rattle.type_terms.specs.Promised.Answers.{is_closed}
 use Rattle.type_terms.specs.Promised.Renumbering.{View, HoldsView, renumbered_reference}
-use Rattle.type_terms.specs.Promised.Questions.{filled_reference, yes, IsProveAnswer}
+use Rattle.type_terms.specs.Promised.Questions.{yes}
+use Rattle.sessions.specs.Promised.Together.{filled_references, AreProved}
 
 -- A closed term for each parameter, of its kind.
 pub record ClosedArguments : Type 0 where
@@ -45,8 +46,8 @@ pub record Entails (W : World) (E : List Reference) (r : Reference) : Type 0 whe
   pub generic : HasProof W E r
   pub instances : (A : ClosedArguments) → Every (HasClosedProof W) (map (closed_reference A) E) → HasProof W [] (closed_reference A r)
 
--- In W, each `yes` by a view that W holds is right: the query's where-clauses entail the trait reference with the values.
+-- In W, each `yes` by a view that W holds is right: the query's where-clauses entail each of its trait references with the values.
 abbrev pub YesHolds : World → List View → Type 0
 YesHolds W vs =
-    (v : View) → HoldsView W v → (limit : ℕ) (ks : List Sort) (ts : List Trees) (E : List Reference) (r : Reference) → IsProveAnswer limit v.world ks E r (yes ts)
-    → Entails W (map (renumbered_reference v.numbers) E) (renumbered_reference v.numbers (filled_reference ks ts r))
+    (v : View) → HoldsView W v → (ks : List Sort) (ts : List Trees) (E rs : List Reference) → AreProved v.world ks E rs (yes ts)
+    → Every (λ r. Entails W (map (renumbered_reference v.numbers) E) (renumbered_reference v.numbers r)) (filled_references ks ts rs)

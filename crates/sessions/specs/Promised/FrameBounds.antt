@@ -1,5 +1,5 @@
 -- How many frames the queries of a session start at most. The numbers depend on what the crate sees, on the query and on the depth.
-use Rattle.std.specs.Prelude.{◌≤◌, ◌+◌, ◌*◌, ℕ, max, List, [], ◌∷◌}
+use Rattle.std.specs.Prelude.{◌≡◌, ◌≤◌, ◌+◌, ◌*◌, ℕ, max, List, [], ◌∷◌}
 use Rattle.type_terms.specs.Promised.Worlds.{World, Reference}
 use Rattle.goal_evaluator.specs.declared.TheConstants.{FIXPOINT_STEP_LIMIT}
 use Rattle.search_graph.specs.Promised.FrameBound.{frame_bound}
@@ -14,10 +14,12 @@ use Rattle.solver_graph.specs.declared.settling.TheConstants.{MAX_ASKINGS}
 abbrev pub most_frames : World → ℕ → List Reference → ℕ
 most_frames V depth rs = frame_bound FIXPOINT_STEP_LIMIT (FIXPOINT_STEP_LIMIT * number_at V (max (greatest width_of rs) (declared_width V))) depth
 
--- The session has started at most as many as for the query's trait reference alone.
+-- Of a query for one trait reference alone:
+-- - the session has started at most as many as for this
 abbrev pub RefutesInFrames : Subject → Question → Subject → Type 0
-RefutesInFrames old q new = new.frames ≤ old.frames + most_frames (view_in old.declarations old.of_crate) old.depth (q.asked ∷ [])
+RefutesInFrames old q new = q.further ≡ [] → new.frames ≤ old.frames + most_frames (view_in old.declarations old.of_crate) old.depth (q.asked ∷ [])
 
--- It has started at most as many for each of `MAX_ASKINGS` evaluations of the query.
+-- - and at most as many for each of `MAX_ASKINGS` evaluations of the query. Nothing is said of several together.
 abbrev pub ProvesInFrames : Subject → Question → Subject → Type 0
-ProvesInFrames old q new = new.frames ≤ old.frames + MAX_ASKINGS * most_frames (view_in old.declarations old.of_crate) old.depth (q.asked ∷ q.clauses)
+ProvesInFrames old q new =
+    q.further ≡ [] → new.frames ≤ old.frames + MAX_ASKINGS * most_frames (view_in old.declarations old.of_crate) old.depth (q.asked ∷ q.clauses)

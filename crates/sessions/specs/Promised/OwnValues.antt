@@ -1,6 +1,6 @@
 -- What the values of an answer may speak of: of names those that the asking crate sees, and of open places unknowns and the question's
 -- own parameters. V is what the crate sees; all is without lifetimes.
-use Rattle.std.specs.Prelude.{◌≡◌, Bool, true, false, not, ◌||◌, ◌==◌, List, ◌∷◌}
+use Rattle.std.specs.Prelude.{◌≡◌, Bool, true, false, not, ◌||◌, ◌==◌, List, ◌++◌}
 use Rattle.std.specs.List.{list_all, list_any}
 use Rattle.type_terms.specs.Promised.Answers.{is_open, is_undeclared}
 use Rattle.type_terms.specs.Promised.Label.{Label, of_type, of_const, placeholder, infer}
@@ -42,12 +42,12 @@ HasNoParameter r = some_node is_bound_place r.args ≡ false
 abbrev pub are_own : World → List Reference → List Trees → Bool
 are_own V rs ts = list_all (λ t. not (some_node (is_foreign V rs) t)) ts
 
--- So it is of the values for the unknowns of a reference under where-clauses E; one without unknowns has none.
-abbrev pub SpeakOfOwn : World → List Reference → Reference → List Trees → Type 0
-SpeakOfOwn V E r ts = some_node is_unknown r.args ≡ true → are_own V (r ∷ E) ts ≡ true
+-- So it is of the values for the unknowns of references rs under where-clauses E; without unknowns there are none.
+abbrev pub SpeakOfOwn : World → List Reference → List Reference → List Trees → Type 0
+SpeakOfOwn V E rs ts = list_any (λ r. some_node is_unknown r.args) rs ≡ true → are_own V (rs ++ E) ts ≡ true
 
 -- So are they of an answer.
-abbrev pub SpeaksOfOwn : World → List Reference → Reference → ProveAnswer → Type 0
-SpeaksOfOwn V E r (yes ts) = SpeakOfOwn V E r ts
-SpeaksOfOwn V E r (maybe ts) = SpeakOfOwn V E r ts
-SpeaksOfOwn V E r unproved = Unit {0}
+abbrev pub SpeaksOfOwn : World → List Reference → List Reference → ProveAnswer → Type 0
+SpeaksOfOwn V E rs (yes ts) = SpeakOfOwn V E rs ts
+SpeaksOfOwn V E rs (maybe ts) = SpeakOfOwn V E rs ts
+SpeaksOfOwn V E rs unproved = Unit {0}

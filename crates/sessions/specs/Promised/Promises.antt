@@ -12,6 +12,7 @@ use Rattle.type_terms.specs.Promised.Questions.{FitKinds, filled, ProveAnswer, y
 use Rattle.type_terms.specs.Promised.Verdicts.{Verdict, IsVerdict}
 use Rattle.text_lowering.specs.Promised.Questions.{variable_kinds}
 use Rattle.sessions.specs.Promised.OwnValues.{HasNoParameter, SpeaksOfOwn}
+use Rattle.sessions.specs.Promised.Together.{all_asked, SolutionOfAll, AreProved, AreRefuted}
 
 -- The view that answers of crate c are about: all that it sees, up to lifetimes.
 abbrev pub view_in : Declarations → ℕ → World
@@ -28,16 +29,16 @@ AreForced V ks E r (yes ts) =
 AreForced V ks E r a = Unit {0}
 
 -- Each solution is these values, with terms us for the variables that they leave open, of kinds js.
-abbrev pub CoverSolutions : World → List Sort → List Reference → Reference → List Trees → Type 0
-CoverSolutions V ks E r ts =
-    (s : SolutionBy (HasProof V E) ks r) → (js : List Sort) × (us : List Trees) × FitKinds js us × (map (filled js us) ts ≡ s.values)
+abbrev pub CoverSolutions : World → List Sort → List Reference → List Reference → List Trees → Type 0
+CoverSolutions V ks E rs ts =
+    (s : SolutionOfAll (HasProof V E) ks rs) → (js : List Sort) × (us : List Trees) × FitKinds js us × (map (filled js us) ts ≡ s.values)
 
 -- The answer to a question without parameters covers its solutions. Those of a maybe are its values, and without where-clauses so are those
 -- of a yes, and an unproved question has none.
-abbrev pub CoversSolutions : World → List Sort → List Reference → Reference → ProveAnswer → Type 0
-CoversSolutions V ks E r (yes ts) = E ≡ [] → HasNoParameter r → CoverSolutions V ks E r ts
-CoversSolutions V ks E r unproved = E ≡ [] → HasNoParameter r → SolutionBy (HasProof V E) ks r → ⊥
-CoversSolutions V ks E r (maybe ts) = HasNoParameter r → CoverSolutions V ks E r ts
+abbrev pub CoversSolutions : World → List Sort → List Reference → List Reference → ProveAnswer → Type 0
+CoversSolutions V ks E rs (yes ts) = E ≡ [] → Every HasNoParameter rs → CoverSolutions V ks E rs ts
+CoversSolutions V ks E rs unproved = E ≡ [] → Every HasNoParameter rs → SolutionOfAll (HasProof V E) ks rs → ⊥
+CoversSolutions V ks E rs (maybe ts) = Every HasNoParameter rs → CoverSolutions V ks E rs ts
 
 -- Every chain of premises from r has fewer than n steps.
 abbrev pub EndsWithin : ℕ → World → List Reference → Reference → Type 0
@@ -70,17 +71,24 @@ IsDecided limit V E r (yes ts) = Unit {0}
 IsDecided limit V E r unproved = IsTrue (not (some_node is_variable r.args)) → EndsWithin limit V E r → HasProof V E r → ⊥
 IsDecided limit V E r (maybe ts) = IsTrue (not (some_node is_variable r.args)) → EndsWithin limit V E r → HasProof V E r × (HasFewRules limit V E r → ⊥)
 
+-- The answer to a question about one trait reference alone.
+abbrev pub IsProvedAlone : ℕ → World → List Sort → List Reference → Reference → ProveAnswer → Type 0
+IsProvedAlone limit V ks E r a = IsProveAnswer limit V ks E r a × AreForced V ks E r a × IsDecided limit V E r a
+
 -- The answer to a `prove` question, by what the asking crate sees of the text and the question's where-clauses; its values name only what
--- that crate sees, and their open places are unknowns and the question's parameters. Without variables, and within the limit, `unproved` and
--- `maybe` tell whether there is a proof.
+-- that crate sees, and their open places are unknowns and the question's parameters. Of one trait reference alone, without variables and
+-- within the limit, `unproved` and `maybe` tell whether there is a proof.
 abbrev pub IsProved : ℕ → Declarations → Question → ProveAnswer → Type 0
 IsProved limit d q a =
+    let V = view_in d q.asker in
+    let ks = variable_kinds q in
     let E = map erased_reference q.clauses in
-    IsProveAnswer limit (view_in d q.asker) (variable_kinds q) E (erased_reference q.asked) a × SpeaksOfOwn (view_in d q.asker) E (erased_reference q.asked) a
-    × AreForced (view_in d q.asker) (variable_kinds q) E (erased_reference q.asked) a
-    × CoversSolutions (view_in d q.asker) (variable_kinds q) E (erased_reference q.asked) a
-    × IsDecided limit (view_in d q.asker) E (erased_reference q.asked) a
+    AreProved V ks E (all_asked q) a × SpeaksOfOwn V E (all_asked q) a × CoversSolutions V ks E (all_asked q) a
+    × (q.further ≡ [] → IsProvedAlone limit V ks E (erased_reference q.asked) a)
 
--- The answer to a `refute` query, by what its crate sees of the text.
+-- The answer to a `refute` query, by what its crate sees of the text. `unrefuted` says something of one trait reference alone.
 abbrev pub IsRefutation : ℕ → Declarations → Question → RefuteAnswer → Type 0
-IsRefutation limit d q a = IsRefuteAnswer limit (view_in d q.asker) q.asker (variable_kinds q) (erased_reference q.asked) a
+IsRefutation limit d q a =
+    let V = view_in d q.asker in
+    AreRefuted V q.asker (variable_kinds q) (all_asked q) a
+    × (q.further ≡ [] → IsRefuteAnswer limit V q.asker (variable_kinds q) (erased_reference q.asked) a)

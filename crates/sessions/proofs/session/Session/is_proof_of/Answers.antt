@@ -10,11 +10,11 @@ use Rattle.text_lowering.specs.Seen.{rules_seen_from}
 use Rattle.candidate_assembly.specs.Fitting.{solving_of}
 use Rattle.sessions.specs.Checking.{rules_in}
 use Rattle.sessions.specs.Sessions.{IsSolvingOf}
-use Rattle.sessions.specs.Shown.{AreProofOfQuestion}
+use Rattle.sessions.specs.Shown.{AreProofOfBound}
 use Rattle.sessions.specs.Promised.Subjects.{Subject, AsksProof, StaysOn}
 use Rattle.sessions.proofs.Keeping.{session-kept, session-rests, limits-stay}
 use Rattle.sessions.proofs.RightAnswers.{is-asked}
-use Rattle.sessions.proofs.ShownProofs.{shown-proof}
+use Rattle.sessions.proofs.ShownProofs.{own-at, shown-proof}
 use Rattle.sessions.proofs.session.Session.is_proof_of.Goals as goal
 
 pub is_proof_of_question-requires-clause-ready : goal.is_proof_of_question-requires-clause-ready
@@ -49,13 +49,17 @@ returns-clause-proof c =
     let d = i.workspace.now in
     let es = i.search.cx.interner.entries in
     let ss = c.args.steps.now in
-    subst (λ (s : Subject). (q : Question) → AsksProof s.declarations s.of_crate c.args.number q → IfOk c.is_proof_of_question.result (λ b. b ≡ true → AreProofOfQuestion s.declarations q s.terms ss)) c.self.view_is
+    subst (λ (s : Subject). (q : Question) → AsksProof s.declarations s.of_crate c.args.number q → IfOk c.is_proof_of_question.result (λ b. b ≡ true → AreProofOfBound s.declarations q c.args.bound s.terms ss)) c.self.view_is
     (λ q asks.
     let of = subst (λ k. IsSolvingOf d k (solving_of es i.search.cx.handler.declarations)) (sym asks.asks.asker) c.self.invariant.session.solving in
     mapped _ _ c.is_proof_of_question.result
     (λ b shown t.
-    shown-proof d c.self.invariant.session.text c.args.number q asks.asks.question (solving_of es i.search.cx.handler.declarations) of (rules_in i.search.cx)
-    (c.self.invariant.session.view.rules ∙ ap (rules_seen_from d) (sym asks.asks.asker)) es ss (shown t))
+    let x = shown t in (
+      x.0,
+      x.1,
+      shown-proof d q x.0 (own-at d c.self.invariant.session.text c.args.number q asks.asks.question (solving_of es i.search.cx.handler.declarations) of c.args.bound x.0 x.1) (rules_in i.search.cx)
+          (c.self.invariant.session.view.rules ∙ ap (rules_seen_from d) (sym asks.asks.asker)) es ss x.2,
+    ))
     (c.is_proof_of_question.ensures.proof q asks.asks.question))
 
 pub returns-clause-stays : goal.returns-clause-stays

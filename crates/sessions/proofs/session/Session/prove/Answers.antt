@@ -52,7 +52,7 @@ returns-clause-answer c =
     let i = c.self.inside in
     subst (λ (s : Subject). (q : Question) → AsksProof s.declarations s.of_crate c.args.number q → IfOk c.prove_question.result (λ a. IsProved s.depth s.declarations q (answer_in c.prove_question.new.search.cx.interner.entries a))) c.self.view_is
     (λ q asks.
-    answered-rightly i.workspace.now i.crate_id.index i.limits.depth i.search.cx i.search.graph i.search.cache c.self.invariant.session c.args.number c.yes_is_proved.ensures c.other_answers_are_right.ensures q asks
+    answered-rightly i.workspace.now i.crate_id.index i.limits.depth i.search.cx i.search.graph i.search.cache c.self.invariant.session c.args.number c.yes_is_proved.ensures c.other_answers_are_right.ensures c.several_are_answered_rightly.ensures q asks
     c.prove_question.new.search.cx.interner.entries c.prove_question.result c.prove_question.ensures.answer)
 
 pub returns-clause-held : goal.returns-clause-held
@@ -71,10 +71,10 @@ returns-clause-frames c =
     let new : Subject = record { declarations = i.workspace.now; of_crate = i.crate_id.index; depth = i.limits.depth; handles = i.limits.handles; terms = x.search.cx.interner.entries; goals = length (kept_inputs x.search.cx.store); answers = length (kept_responses x.search.cx.store); frames = x.search.graph.frames } in
     let s = solving_of i.search.cx.interner.entries i.search.cx.handler.declarations in
     subst (λ (old : Subject). (q : Question) → AsksProof old.declarations old.of_crate c.args.number q → ProvesInFrames old q new) c.self.view_is
-    (λ q asks.
+    (λ q asks e.
     question-within s (view_in i.workspace.now i.crate_id.index) (seen-erased-world i.search.cx.interner.entries i.search.cx.handler.declarations i.workspace.now i.crate_id.index c.self.invariant.session.view.written) i.limits.depth q i.search.graph.frames x.search.graph.frames
     (subst (λ n. AskingsStartFrames solver_by_view PostAnalysis s n (goal_asking s.view q) MAX_ASKINGS (table_trees [] (table_of (variable_kinds q))) i.search.graph.frames x.search.graph.frames) c.self.invariant.session.rest.depth
-    (c.prove_question.ensures.frames q asks.asks.question)))
+    (c.prove_question.ensures.frames q asks.asks.question e)))
 
 pub returns-clause-full : goal.returns-clause-full
 returns-clause-full c =

@@ -25,9 +25,10 @@ returns-clause-answer c =
     answered-exactly i.workspace.now i.crate_id.index i.limits.depth i.search.cx i.search.graph i.search.cache c.self.invariant.session c.refutations_have_variables_alone.ensures c.args.number q asks c.refute_question.result
     (record {
       made = on-map c.refute_question.result _ _ (λ f. f q asks.asks.question) c.refute_question.ensures.made;
-      no = λ r own. c.refute_question.ensures.no r q asks.asks.question own;
-      refused = λ r. c.refute_question.ensures.refused r q asks.asks.question;
-      left = λ r. c.refute_question.ensures.open r q asks.asks.question;
+      no = λ r e own. c.refute_question.ensures.no r q asks.asks.question e own;
+      refused = λ r e. c.refute_question.ensures.refused r q asks.asks.question e;
+      left = λ r e. c.refute_question.ensures.open r q asks.asks.question e;
+      together = λ r more. c.refute_question.ensures.together r q asks.asks.question more;
     }))
 
 pub returns-clause-frames : goal.returns-clause-frames
@@ -36,10 +37,10 @@ returns-clause-frames c =
     let new : Subject = record { declarations = i.workspace.now; of_crate = i.crate_id.index; depth = i.limits.depth; handles = i.limits.handles; terms = c.refute_question.new.search.cx.interner.entries; goals = length (kept_inputs c.refute_question.new.search.cx.store); answers = length (kept_responses c.refute_question.new.search.cx.store); frames = c.refute_question.new.search.graph.frames } in
     let s = solving_of i.search.cx.interner.entries i.search.cx.handler.declarations in
     subst (λ (old : Subject). (q : Question) → AsksRefutation old.declarations old.of_crate c.args.number q → RefutesInFrames old q new) c.self.view_is
-    (λ q asks.
+    (λ q asks e.
     refutation-within s (view_in i.workspace.now i.crate_id.index) (seen-erased-world i.search.cx.interner.entries i.search.cx.handler.declarations i.workspace.now i.crate_id.index c.self.invariant.session.view.written) i.limits.depth q i.search.graph.frames new.frames
     (subst (λ n. new.frames ≤ i.search.graph.frames + frames_for solver_by_view s n (asked_alone (unbound_reference q.asked))) c.self.invariant.session.rest.depth
-    (c.refute_question.ensures.frames q asks.asks.question)))
+    (c.refute_question.ensures.frames q asks.asks.question e)))
 
 pub returns-clause-full : goal.returns-clause-full
 returns-clause-full c =
