@@ -15,6 +15,7 @@ mod ClaimsLater
 mod FreeGoals
 mod HeadersApart
 mod PassedImpls
+mod BoundGoals
 -- The crates below whose names the crates above need too: these list this crate alone.
 pub use Rattle.sessions.proofs as Sessions
 pub use Rattle.sessions.proofs.ProofChecker

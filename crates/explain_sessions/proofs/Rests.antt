@@ -1,5 +1,9 @@
 -- What walks keep, one call after the other.
-use Rattle.std.proofs.Common.{◌≡◌, ◌∙◌, ap, refl, ℕ}
+use Rattle.std.proofs.Common.{◌≡◌, ◌∙◌, ap, refl, ℕ, List}
+use Rattle.fulfillment.specs.Selecting.{CanSelect, HasSelected}
+use Rattle.fulfillment.specs.declared.obligation.Obligation.{Obligation}
+use Rattle.sessions.specs.InferTable.Content.{Table}
+use Rattle.sessions.specs.InferTable.declared.certainty.TypingMode.{TypingMode}
 use Rattle.sessions.specs.SearchGraph.SearchState.{SearchState}
 use Rattle.sessions.specs.Declarations.Items.{declared}
 use Rattle.sessions.proofs.Declarations.Growth.{all-declared}
@@ -71,3 +75,10 @@ rests-asked n c d g h ks ls r a k = record {
   keeps = k.entries;
   limits = let same = k.keeps.held (of_limits c.interner.limit (limit_of c.store)) (refl, refl) in record { terms = same.0; kept = same.1 };
 }
+
+-- a selection of goals over a table
+pub rests-selected : (n : ℕ) (c d : SolverCx Solver) (g h : SearchState) (ks ls : Cached) (t u : Table) (os ps : List Obligation) (mode : TypingMode) → SolverRests n c g ks
+    → CanSelect solver_by_view h ls d u ps → HasSelected solver_by_view mode g ks c t os h ls d u ps → RestsAfter n c d h ls
+rests-selected n c d g h ks ls t u os ps mode r a k =
+    rests-asked n c d g h ks ls r (record { empty = a.empty; cache = a.cache; ready = a.ready })
+    (record { depth = k.asked.depth; keeps = k.asked.keeps; entries = k.asked.entries })

@@ -9,7 +9,7 @@ ghost use Rattle.sessions.specs.Checking.{HasJudged};
 ghost use Rattle.sessions.specs.Later.{section_headers};
 ghost use Rattle.sessions.specs.Promised.Promises.{view_in};
 ghost use Rattle.sessions.specs.Promised.Releases.{IsSectionOf};
-ghost use Rattle.sessions.specs.Shown.{AreProofOfQuestion};
+ghost use Rattle.sessions.specs.Shown.{AreProofOfBound};
 ghost use Rattle.sessions.specs.Promised.Subjects.{AsksProof, AsksRefutation, StaysOn};
 ghost use Rattle.explain_sessions.specs.Causes.{IsCauseAt};
 ghost use Rattle.explain_sessions.specs.Rules.{HasRulesByBoth};
@@ -20,20 +20,20 @@ use crate::breaking::{BreakingCause, breaking_cause};
 use crate::pairs::walk_pair;
 use crate::questions::{walk_proof, walk_question, walk_refutation};
 use crate::supertraits::walk_supertrait;
-use crate::walks::{PairWalk, ProofWalk};
+use crate::walks::{BoundWalk, PairWalk, ProofWalk};
 use explain_traces::GoalWalk;
 use sessions::candidate_assembly::solver::Solver;
 use sessions::type_terms::kinds::GenericArgKind;
 use sessions::type_terms::{Fault, ImplId};
 use sessions::{Session, clauses_apply, impls_apply, overlap_at};
 
-/// Traces the goal of a `prove` query of the session's crate as it is evaluated first. It explains why the query was not proved, or is not
-/// known. Queries count from 1.
+/// Traces the bound of a `prove` query of the session's crate that explains why the query was not proved, or is not known: the one that is
+/// refused, or else the first that stays open. Queries count from 1.
 ///
 /// Fails with `Memory` if memory is refused, or with `Full` if a table of the session is full.
-pub fn explain_question(session: &mut Session<'_>, number: u32) -> Result<GoalWalk, Fault>
+pub fn explain_question(session: &mut Session<'_>, number: u32) -> Result<BoundWalk, Fault>
     requires { (q : Question) × AsksProof session.old.declarations session.old.of_crate number q }
-    ensures held { IfOk result (WalkHeld session.new.terms) }
+    ensures held { IfOk result (λ b. WalkHeld session.new.terms b.walk) }
     ensures stays { StaysOn session.old session.new }
 {
     clauses_apply();
@@ -45,9 +45,9 @@ pub fn explain_question(session: &mut Session<'_>, number: u32) -> Result<GoalWa
     )
 }
 
-/// Traces the goal of a `prove` query of the session's crate with the values of its answer, and finds the steps of its proof. They are not
+/// Traces a bound of a `prove` query of the session's crate with the values of its answer, and finds the steps of its proof. They are not
 /// checked.
-fn find_proof(session: &mut Session<'_>, number: u32) -> Result<ProofWalk, Fault>
+fn find_proof(session: &mut Session<'_>, number: u32, bound: usize) -> Result<ProofWalk, Fault>
     requires { (q : Question) × AsksProof session.old.declarations session.old.of_crate number q }
     ensures held { IfOk result (ProofWalkHeld session.new.terms) }
     ensures shown { IfOk result ShowsItsSteps }
@@ -58,41 +58,44 @@ fn find_proof(session: &mut Session<'_>, number: u32) -> Result<ProofWalk, Fault
         &mut session.search,
         session.workspace,
         number,
+        bound,
         session.limits.depth,
     )
 }
 
-/// Traces the goal of a `prove` query of the session's crate that was answered `Yes`, and checks the proof that the trace finds, with the
-/// values of the answer. Queries count from 1.
+/// Traces a bound of a `prove` query of the session's crate that was answered `Yes`, and checks the proof that the trace finds, with the
+/// values of the answer. Queries count from 1, and their bounds from 0.
 ///
-/// If the result says that the steps are checked, they are a proof of the query's trait reference with some values of its variables, under
-/// what they assume: a rule that is not checked, or a goal that is not displayed.
+/// If the result says that the steps are checked, they are a proof of that bound with some values of the query's variables, under what they
+/// assume: a rule that is not checked, or a goal that is not displayed.
 ///
 /// Fails with `Memory` if memory is refused, or with `Full` if a table of the session is full.
 pub fn explain_proof(
     session: &mut Session<'_>,
     number: u32,
+    bound: usize,
     values: &[GenericArgKind],
 ) -> Result<ProofWalk, Fault>
     requires question { (q : Question) × AsksProof session.old.declarations session.old.of_crate number q }
     requires values { ArgsHeld session.old.terms values.now }
     ensures proof { (q : Question) → AsksProof session.old.declarations session.old.of_crate number q
-        → IfOk result (λ p. p.is_checked ≡ true → AreProofOfQuestion session.old.declarations q session.new.terms p.steps.items) }
+        → IfOk result (λ p. p.is_checked ≡ true → AreProofOfBound session.old.declarations q bound session.new.terms p.steps.items) }
     ensures held { IfOk result (ProofWalkHeld session.new.terms) }
     ensures shown { IfOk result ShowsItsSteps }
     ensures stays { StaysOn session.old session.new }
 {
-    let mut found = find_proof(session, number)?;
-    found.is_checked = session.is_proof_of(number, values, &found.steps)?;
+    let mut found = find_proof(session, number, bound)?;
+    found.is_checked = session.is_proof_of(number, bound, values, &found.steps)?;
     Ok(found)
 }
 
-/// Traces the goal of a `refute` query of the session's crate in coherence. Queries count from 1.
+/// Traces the bound of a `refute` query of the session's crate that explains its answer, in coherence: the one that is refused, or else the
+/// first that stays open. Queries count from 1.
 ///
 /// Fails with `Memory` if memory is refused, or with `Full` if a table of the session is full.
-pub fn explain_refutation(session: &mut Session<'_>, number: u32) -> Result<GoalWalk, Fault>
+pub fn explain_refutation(session: &mut Session<'_>, number: u32) -> Result<BoundWalk, Fault>
     requires { (q : Question) × AsksRefutation session.old.declarations session.old.of_crate number q }
-    ensures held { IfOk result (WalkHeld session.new.terms) }
+    ensures held { IfOk result (λ b. WalkHeld session.new.terms b.walk) }
     ensures stays { StaysOn session.old session.new }
 {
     walk_refutation(

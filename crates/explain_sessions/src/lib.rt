@@ -10,6 +10,7 @@
 mod adding;
 mod alone;
 mod apart;
+mod bounds;
 mod breaking;
 mod claims;
 mod explained;
@@ -39,7 +40,7 @@ pub use explained::{
     explain_supertrait, impls_overlap,
 };
 pub use unseen::{breaks_orphan_rule, impl_header};
-pub use walks::{CheckedCandidates, PairWalk, ProofWalk, ShownStep};
+pub use walks::{BoundWalk, CheckedCandidates, PairWalk, ProofWalk, ShownStep};
 
 // What traces are made of, so that users of this crate need no other.
 pub use explain_traces::{Answer, GoalWalk};

@@ -1,46 +1,48 @@
-//! The goals of queries, traced as a session evaluates them.
+//! The bounds of queries, traced as a session evaluates them.
 
 ghost use Rattle.std.specs.Prelude.{◌≡◌, IfOk};
+ghost use Rattle.fulfillment.specs.Obligations.{ObligationsHeld};
 ghost use Rattle.sessions.specs.TextLanguage.Promised.Declarations.{Question};
 ghost use Rattle.sessions.specs.Declarations.Applied.{AreApplied};
 ghost use Rattle.sessions.specs.InferTable.Content.{Ready};
-ghost use Rattle.sessions.specs.InferTable.Goals.{GoalHeld};
 ghost use Rattle.sessions.specs.TextLowering.Questions.{IsLowered};
 ghost use Rattle.sessions.specs.TextLowering.Promised.Questions.{IsQuestion};
-ghost use Rattle.explain_traces.specs.Walking.{ReferencesHeld};
 ghost use Rattle.sessions.specs.Proving.{ClausesApply, SolverAdvances, SolverIsReady};
 ghost use Rattle.sessions.specs.Sessions.{SolverRests};
 ghost use Rattle.explain_sessions.specs.Shown.{ShowsItsSteps};
-ghost use Rattle.explain_sessions.specs.Walked.{ProofWalkHeld, RestsAfter};
+ghost use Rattle.explain_sessions.specs.Walked.{ProofWalkHeld, RestsAfter, WalkHeld};
 
+use crate::bounds::{pose, select, walk_bounds, walk_settled_bound};
 use crate::steps::with_steps;
-use crate::walking::{bare_goal, elaborated_goal, walk_alone, walk_settled};
-use crate::walks::ProofWalk;
-use explain_traces::{GoalWalk, TracedGoal};
+use crate::walks::{BoundWalk, ProofWalk};
+use fulfillment::FulfillmentCtxt;
 use sessions::candidate_assembly::solver::Solver;
-use sessions::goal_evaluator::{Goal, TypingMode};
+use sessions::goal_evaluator::TypingMode;
 use sessions::infer_table::infer_ctxt::InferCtxt;
 use sessions::solver_graph::{Search, SolverCx};
 use sessions::text_lowering::LoweredQuestion;
 use sessions::text_tables::Workspace;
 use sessions::type_terms::Fault;
-use sessions::{lower_in, question_table_in};
+use sessions::{elaborate_in, lower_in};
 
-/// The goal of a query of the context's terms, under its where-clauses with all their supertraits, and a table for its variables.
-fn pose(cx: &mut SolverCx<Solver>, lowered: &LoweredQuestion) -> Result<(Goal, InferCtxt), Fault>
+/// The goals of a `prove` query's bounds under its where-clauses with all their supertraits, and a table for its variables.
+fn pose_proof(
+    cx: &mut SolverCx<Solver>,
+    lowered: &LoweredQuestion,
+    depth: u32,
+) -> Result<(FulfillmentCtxt, InferCtxt), Fault>
     requires ready { SolverIsReady cx.old }
     requires lowered { (q : Question) × IsLowered cx.old.interner.entries q lowered.now }
     requires applied { AreApplied cx.old.interner.entries cx.old.handler.declarations lowered.now.clauses.items }
     ensures advances { SolverAdvances cx.old cx.new }
-    ensures goal { IfOk result (λ posed. GoalHeld cx.new.interner.entries posed.0) }
+    ensures goals { IfOk result (λ posed. ObligationsHeld cx.new.interner.entries posed.0.obligations.items) }
     ensures table { IfOk result (λ posed. Ready cx.new.interner.entries posed.1) }
 {
-    let goal = elaborated_goal(cx, &lowered.clauses, lowered.asked)?;
-    let table = question_table_in(cx, &lowered.unknowns)?;
-    Ok((goal, table))
+    let clauses = elaborate_in(cx, &lowered.clauses)?;
+    pose(cx, &clauses, lowered, depth)
 }
 
-/// Traces the goal of a `prove` query as it is evaluated first, at most this deep.
+/// Traces the bound of a `prove` query that explains why the query was not proved, or is not known, at most this deep.
 ///
 /// Everything stays at rest, after a fault too. Fails with `Memory` if memory is refused, or with `Full` if a table is full.
 pub(crate) fn walk_question(
@@ -48,30 +50,28 @@ pub(crate) fn walk_question(
     workspace: &Workspace,
     number: u32,
     depth: u32,
-) -> Result<GoalWalk, Fault>
+) -> Result<BoundWalk, Fault>
     requires rest { SolverRests search.old.graph.root_depth search.old.cx search.old.graph search.old.cache }
     requires question { (q : Question) × IsQuestion workspace.now number q }
     requires applied { (q : Question) → IsQuestion workspace.now number q → ClausesApply search.old.cx.handler.declarations q }
     ensures rests { RestsAfter search.old.graph.root_depth search.old.cx search.new.cx search.new.graph search.new.cache }
-    ensures held { IfOk result (λ w. ReferencesHeld search.new.cx.interner.entries w.references.items) }
+    ensures held { IfOk result (λ b. WalkHeld search.new.cx.interner.entries b.walk) }
 {
     let lowered = lower_in(&mut search.cx, workspace, number)?;
-    let (goal, mut table) = pose(&mut search.cx, &lowered)?;
-    let traced = TracedGoal {
-        goal: &goal,
-        mode: TypingMode::PostAnalysis,
-        depth,
-    };
-    walk_alone(search, &mut table, traced)
+    let (mut goals, mut table) = pose_proof(&mut search.cx, &lowered, depth)?;
+    let mode = TypingMode::PostAnalysis;
+    walk_bounds(search, &mut table, &mut goals, mode, depth)
 }
 
-/// Traces the goal of a `prove` query that was proved, at most this deep, and finds the steps of its proof. They are not checked.
+/// Traces the goal of one bound of a `prove` query that was proved, with what all bounds fix of its variables, at most this deep, and finds
+/// the steps of its proof. They are not checked. Bounds count from 0.
 ///
 /// Everything stays at rest, after a fault too. Fails with `Memory` if memory is refused, or with `Full` if a table is full.
 pub(crate) fn walk_proof(
     search: &mut Search<Solver>,
     workspace: &Workspace,
     number: u32,
+    bound: usize,
     depth: u32,
 ) -> Result<ProofWalk, Fault>
     requires rest { SolverRests search.old.graph.root_depth search.old.cx search.old.graph search.old.cache }
@@ -82,12 +82,13 @@ pub(crate) fn walk_proof(
     ensures shown { IfOk result ShowsItsSteps }
 {
     let lowered = lower_in(&mut search.cx, workspace, number)?;
-    let (goal, mut table) = pose(&mut search.cx, &lowered)?;
-    let walk = walk_settled(search, &mut table, &goal, depth)?;
+    let (mut goals, mut table) = pose_proof(&mut search.cx, &lowered, depth)?;
+    let _telling = select(search, &mut table, &mut goals, TypingMode::PostAnalysis)?;
+    let walk = walk_settled_bound(search, &mut table, &goals, bound, depth)?;
     with_steps(&mut search.cx, &mut table, &lowered.clauses, walk)
 }
 
-/// Traces the goal of a `refute` query in coherence, at most this deep.
+/// Traces the bound of a `refute` query that explains its answer, in coherence, at most this deep.
 ///
 /// Everything stays at rest, after a fault too. Fails with `Memory` if memory is refused, or with `Full` if a table is full.
 pub(crate) fn walk_refutation(
@@ -95,19 +96,13 @@ pub(crate) fn walk_refutation(
     workspace: &Workspace,
     number: u32,
     depth: u32,
-) -> Result<GoalWalk, Fault>
+) -> Result<BoundWalk, Fault>
     requires rest { SolverRests search.old.graph.root_depth search.old.cx search.old.graph search.old.cache }
     requires question { (q : Question) × IsQuestion workspace.now number q }
     ensures rests { RestsAfter search.old.graph.root_depth search.old.cx search.new.cx search.new.graph search.new.cache }
-    ensures held { IfOk result (λ w. ReferencesHeld search.new.cx.interner.entries w.references.items) }
+    ensures held { IfOk result (λ b. WalkHeld search.new.cx.interner.entries b.walk) }
 {
     let lowered = lower_in(&mut search.cx, workspace, number)?;
-    let goal = bare_goal(search.cx.alloc, lowered.asked);
-    let mut table = question_table_in(&mut search.cx, &lowered.unknowns)?;
-    let traced = TracedGoal {
-        goal: &goal,
-        mode: TypingMode::Coherence,
-        depth,
-    };
-    walk_alone(search, &mut table, traced)
+    let (mut goals, mut table) = pose(&mut search.cx, &[], &lowered, depth)?;
+    walk_bounds(search, &mut table, &mut goals, TypingMode::Coherence, depth)
 }

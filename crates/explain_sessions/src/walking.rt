@@ -1,12 +1,9 @@
 //! Traces of the solver's goals that begin without any goal.
 
 ghost use Rattle.std.specs.Prelude.{◌≡◌, [], IfOk};
-ghost use Rattle.sessions.specs.Declarations.Applied.{TraitRefsHeld, AreApplied};
-ghost use Rattle.sessions.specs.Declarations.Held.{ReferenceHeld};
 ghost use Rattle.sessions.specs.InferTable.Content.{Ready};
 ghost use Rattle.sessions.specs.InferTable.Goals.{GoalHeld};
 ghost use Rattle.explain_traces.specs.Walking.{ReferencesHeld};
-ghost use Rattle.sessions.specs.Proving.{SolverAdvances, SolverIsReady};
 ghost use Rattle.sessions.specs.Sessions.{SolverRests};
 ghost use Rattle.explain_sessions.specs.Walked.{RestsAfter};
 
@@ -14,29 +11,10 @@ use explain_traces::{GoalWalk, TracedGoal, settle, walk_goal};
 use sessions::candidate_assembly::solver::Solver;
 use sessions::goal_evaluator::{Goal, TypingMode};
 use sessions::infer_table::infer_ctxt::InferCtxt;
-use sessions::solver_graph::{Search, SolverCx};
+use sessions::solver_graph::Search;
 use sessions::term_folds::predicate::{TraitPredicate, TraitRef};
 use sessions::type_terms::Fault;
-use sessions::{elaborate_in, goal_under};
 use std::alloc::Global;
-
-/// The goal for a trait reference under where-clauses with all their supertraits.
-pub(crate) fn elaborated_goal(
-    cx: &mut SolverCx<Solver>,
-    clauses: &[TraitRef],
-    asked: TraitRef,
-) -> Result<Goal, Fault>
-    requires ready { SolverIsReady cx.old }
-    requires clauses { TraitRefsHeld cx.old.interner.entries clauses.now }
-    requires applied { AreApplied cx.old.interner.entries cx.old.handler.declarations clauses.now }
-    requires asked { ReferenceHeld cx.old.interner.entries asked }
-    ensures advances { SolverAdvances cx.old cx.new }
-    ensures held { IfOk result (GoalHeld cx.new.interner.entries) }
-{
-    let elaborated = elaborate_in(cx, clauses)?;
-    let goal = goal_under(cx.alloc, &elaborated, asked)?;
-    Ok(goal)
-}
 
 /// The goal for a trait reference without where-clauses.
 pub(crate) fn bare_goal(alloc: Global, asked: TraitRef) -> Goal

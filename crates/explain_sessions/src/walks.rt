@@ -16,6 +16,30 @@ pub struct ShownStep {
     pub premises: Vec<usize>,
 }
 
+/// The trace of the bound of a query that explains the query's answer.
+pub struct BoundWalk {
+    /// The number of the bound in the query, from 0.
+    pub number: usize,
+    /// With what all bounds of the query fix of its variables. Of one bound alone it is as it is evaluated first.
+    pub walk: GoalWalk,
+    /// Whether they fix variables of this bound, so that the trace begins with another trait reference than that of the query.
+    pub is_narrowed: bool,
+    /// Whether its answers had values as often as is allowed, so that it was evaluated no more.
+    pub is_exhausted: bool,
+}
+
+// Hand-written so that the prover sees one drop call: docs/PROVING.md#drop.
+impl Drop for BoundWalk {
+    fn drop(self) {
+        let BoundWalk {
+            number: _,
+            walk: _,
+            is_narrowed: _,
+            is_exhausted: _,
+        } = self;
+    }
+}
+
 /// The trace of a goal that holds, and a proof of it.
 pub struct ProofWalk {
     pub walk: GoalWalk,

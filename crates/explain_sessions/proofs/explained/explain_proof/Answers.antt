@@ -2,7 +2,7 @@ use Rattle.std.proofs.Common.{sym, subst}
 use Rattle.sessions.specs.TypeTerms.Kept.{args-held-later}
 use Rattle.explain_traces.proofs.Walks.{references-later}
 use Rattle.sessions.proofs.ProofChecker.Later.{steps-kept}
-use Rattle.sessions.specs.Shown.{AreProofOfQuestion}
+use Rattle.sessions.specs.Shown.{AreProofOfBound}
 use Rattle.sessions.specs.Promised.Subjects.{AsksProof}
 use Rattle.explain_sessions.proofs.LaterProofs.{proof-later}
 use Rattle.explain_sessions.proofs.explained.explain_proof.Goals as goal
@@ -18,8 +18,16 @@ returns-clause-proof c = λ q asks t.
     let ss = c.in_ok-found.found.steps.items in
     let there = subst (λ d. AsksProof d mid.of_crate c.args.number q) (sym same.declarations) (subst (λ k. AsksProof old.declarations k c.args.number q) (sym same.of_crate) asks) in
     let by = c.in_ok-found-2.ensures.proof q there t in
-    let here = subst (λ d. AreProofOfQuestion d q mid.terms ss) same.declarations (subst (AreProofOfQuestion mid.declarations q mid.terms) c.deref.ensures.value by) in
-    record { values = here.values; fit = here.fit; proof = proof-later mid.terms c.is_proof_of.new.self.terms c.is_proof_of.ensures.stays.terms _ _ _ ss c.in_ok-found.ensures.held.steps here.proof }
+    let here = subst (λ d. AreProofOfBound d q c.args.bound mid.terms ss) same.declarations (subst (AreProofOfBound mid.declarations q c.args.bound mid.terms) c.deref.ensures.value by) in
+    let shown = here.2 in (
+      here.0,
+      here.1,
+      record {
+        values = shown.values;
+        fit = shown.fit;
+        proof = proof-later mid.terms c.is_proof_of.new.self.terms c.is_proof_of.ensures.stays.terms _ _ _ ss c.in_ok-found.ensures.held.steps shown.proof;
+      },
+    )
 
 pub returns-clause-held : goal.returns-clause-held
 returns-clause-held c =
