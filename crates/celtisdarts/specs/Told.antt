@@ -5,15 +5,16 @@ use Rattle.explain_texts.specs.TextLanguage.Promised.Declarations.{Question}
 use Rattle.explain_texts.specs.ProofChecker.Steps.{term_of}
 use Rattle.explain_texts.specs.Sessions.Checking.{HasJudged}
 use Rattle.explain_texts.specs.Sessions.Promised.Promises.{view_in}
-use Rattle.explain_texts.specs.Sessions.Shown.{AreProofOfQuestion}
+use Rattle.explain_texts.specs.Sessions.Shown.{AreProofOfBound}
 use Rattle.explain_texts.specs.Sessions.Promised.Subjects.{Subject, AsksProof}
 use Rattle.explain_texts.specs.ExplainSessions.Rules.{HasRulesByBoth}
 use Rattle.explain_texts.specs.ExplainSessions.declared.walks.PairWalk.{PairWalk}
 use Rattle.explain_texts.specs.ExplainSessions.declared.walks.ProofWalk.{ProofWalk}
 
--- Steps that are displayed as checked are a proof of the bound of the query with this number.
-abbrev pub ShowsProofOf : Subject → ℕ → ProofWalk → Type 0
-ShowsProofOf s n p = (q : Question) × AsksProof s.declarations s.of_crate n q × (p.is_checked ≡ true → AreProofOfQuestion s.declarations q s.terms p.steps.items)
+-- Steps that are displayed as checked are a proof of the bound with number m, counted from 0, of the query with number n.
+abbrev pub ShowsProofOf : Subject → ℕ → ℕ → ProofWalk → Type 0
+ShowsProofOf s n m p =
+    (q : Question) × AsksProof s.declarations s.of_crate n q × (p.is_checked ≡ true → AreProofOfBound s.declarations q m s.terms p.steps.items)
 
 -- If the common instance of two impls is displayed as checked, both of them conclude it.
 abbrev pub ShowsCommonOf : Subject → ImplId → ImplId → PairWalk → Type 0

@@ -13,6 +13,7 @@ use std::io::{BufRead, IsTerminal, Lock, Write};
 /// What can be asked.
 const FORMS: &str =
     "prove in CRATE TYPE: TRAIT     whether the crate sees a proof: yes, maybe or unproved; `?x` in TYPE and TRAIT is a variable
+.. TYPE: TRAIT, TYPE: TRAIT      several at once, with the same values for their variables
 .. <T> T: TRAIT where T: OTHER   with parameters behind the crate's name, and with where-clauses
 refute in CRATE TYPE: TRAIT    whether no crate that may be linked can give one: no or open
 ";

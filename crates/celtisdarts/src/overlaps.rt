@@ -168,6 +168,8 @@ fn tell_one(
         may_run_out: found.may_run_out,
         seen: &found.seen,
         supertrait: None,
+        is_narrowed: false,
+        is_exhausted: false,
     };
     tell_clause(&found.story, clause.place, asking, telling)
 }

@@ -1,4 +1,4 @@
-//! The text for a query that was answered `yes`: its proof, as the tree of the checked steps.
+//! The text for a query that was answered `yes`: the proofs of its bounds, as trees of the checked steps.
 
 ghost use Rattle.std.specs.Prelude.{◌≡◌, ℕ, true, IfSome};
 ghost use Rattle.celtisdarts.specs.Told.{ShowsProofOf};
@@ -16,7 +16,7 @@ use explain_texts::type_terms::interner::Interner;
 use explain_texts::{Spoken, Story, Texts, impl_piece, source_piece, speak, tell};
 use std::alloc::{AllocError, Global};
 
-/// How many rows a proof has at most.
+/// How many rows the proofs of a query have at most, together.
 const ROW_LIMIT: usize = 128;
 
 /// The reason for a goal that holds, if no more of its proof is displayed.
@@ -69,7 +69,7 @@ pub(crate) fn tell_proof<'w>(
     claims: &'w Claims,
 ) -> Result<ToldProof<'w>, AllocError>
     requires walked { ProofWalkHeld session.now.terms proof.now }
-    requires proof { (n : ℕ) × ShowsProofOf session.now n proof.now }
+    requires proof { (n m : ℕ) × ShowsProofOf session.now n m proof.now }
     requires claims { ClaimsHold session.now proof.now.walk claims.now }
 {
     let goals = speak_steps(alloc, session.interner(), names, &proof.steps)?;
@@ -225,8 +225,13 @@ impl ToldProof<'_> {
         Ok(())
     }
 
-    /// Adds the rows of the proof, as many as are displayed.
-    fn tell_rows(&self, last: usize, telling: &mut Telling) -> Result<(), AllocError>
+    /// Adds the rows of the proof, so many at most. Returns whether these are all.
+    fn tell_rows(
+        &self,
+        last: usize,
+        limit: usize,
+        telling: &mut Telling,
+    ) -> Result<bool, AllocError>
         requires { self.now.proof.now.is_checked ≡ true }
     {
         let mut course = Course {
@@ -238,15 +243,12 @@ impl ToldProof<'_> {
             depth: 0,
             is_assumed: false,
         })?;
-        for _row in 0..ROW_LIMIT {
+        for _row in 0..limit {
             if let Some(row) = course.left.pop() {
                 self.tell_row(row, &mut course, telling)?;
             }
         }
-        if !course.left.is_empty() {
-            telling.note(plain("the rest of the proof is not shown"));
-        }
-        Ok(())
+        Ok(course.left.is_empty())
     }
 
     /// Whether a step is assumed that is no built-in rule's: the checker has rules for all impls and where-clauses.
@@ -283,19 +285,27 @@ impl ToldProof<'_> {
         }
     }
 
-    /// Adds the proof, or that it is not displayed.
-    fn tell_all(&self, telling: &mut Telling) {
+    /// Adds the proof, so many rows at most, or that it is not displayed. Returns whether no row is left out.
+    pub(crate) fn tell_all(&self, limit: usize, telling: &mut Telling) -> bool {
         match self.last_step() {
             Some(last) => {
-                let told = self.tell_rows(last, telling);
-                telling.granted(told);
+                let told = self.tell_rows(last, limit, telling);
+                telling.granted(told).unwrap_or(true)
             }
-            None => telling.row(0, self.story.reference(0), plain(NOT_SHOWN)),
+            None => {
+                telling.row(0, self.story.reference(0), plain(NOT_SHOWN));
+                true
+            }
         }
     }
 }
 
-/// The diagnostic for a query that was answered `yes`, at this span.
+/// Adds that rows of proofs are left out.
+pub(crate) fn tell_rest(telling: &mut Telling) {
+    telling.note(plain("the rest of the proof is not shown"));
+}
+
+/// The diagnostic for a query with one bound that was answered `yes`, at this span.
 pub(crate) fn proved(
     alloc: Global,
     proof: &ToldProof<'_>,
@@ -304,6 +314,19 @@ pub(crate) fn proved(
     let message = with_one("`{}` holds", proof.story.reference(0));
     let mut telling = Telling::begin(alloc, Level::Note, None, message);
     telling.mark(span, plain(""));
-    proof.tell_all(&mut telling);
+    if !proof.tell_all(ROW_LIMIT, &mut telling) {
+        tell_rest(&mut telling);
+    }
     telling.finish()
+}
+
+/// Begins the diagnostic for a query with so many bounds that was answered `yes`.
+pub(crate) fn begin_proofs(alloc: Global, count: usize) -> Telling {
+    let message = with_one("the {} bounds hold together", Piece::Number(count));
+    Telling::begin(alloc, Level::Note, None, message)
+}
+
+/// How many rows the proof of each of so many bounds has at most.
+pub(crate) fn rows_of_each(count: usize) -> usize {
+    ROW_LIMIT / count.max(1)
 }

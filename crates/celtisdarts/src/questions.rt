@@ -1,6 +1,6 @@
 //! Explanations of queries.
 
-ghost use Rattle.std.specs.Prelude.{◌≡◌, ℕ};
+ghost use Rattle.std.specs.Prelude.{◌≡◌, ℕ, IfOk};
 ghost use Rattle.celtisdarts.specs.Told.{ShowsProofOf};
 ghost use Rattle.explain_texts.specs.ExplainSessions.Claims.{ClaimsHold};
 ghost use Rattle.explain_texts.specs.ExplainSessions.Walked.{ProofWalkHeld, WalkHeld};
@@ -9,13 +9,14 @@ ghost use Rattle.explain_texts.specs.Sessions.Promised.Subjects.{AsksProof, Asks
 ghost use Rattle.explain_texts.specs.TextLanguage.Promised.Declarations.{Question};
 ghost use Rattle.explain_texts.specs.TypeTerms.Promised.Handles.{ArgsHeld};
 
-use crate::proofs::{proved, tell_proof};
+use crate::proofs::{ToldProof, begin_proofs, proved, rows_of_each, tell_proof, tell_rest};
 use crate::spending::Spending;
 use explain_texts::explain_diagnostics::{Diagnostic, Span};
 use explain_texts::explain_sessions::{
-    Claims, GoalWalk, ProofWalk, explain_proof, explain_question, explain_refutation, no_claims,
+    BoundWalk, Claims, ProofWalk, explain_proof, explain_question, explain_refutation, no_claims,
     question_claims, refutation_claims,
 };
+use explain_texts::messages::{Telling, plain};
 use explain_texts::sessions::{ProveAnswer, RefuteAnswer, Session};
 use explain_texts::text_printer::ShownNames;
 use explain_texts::text_tables::Param;
@@ -69,68 +70,167 @@ impl<'s> Questioned<'s> {
         }
     }
 
-    /// The span of its bound.
-    fn span(self) -> Span {
+    /// How many bounds it has.
+    fn bound_count(self) -> usize {
+        match self.texts.workspace.question_entries().get(self.place) {
+            Some(entry) => entry.further.len().saturating_add(1),
+            None => 1,
+        }
+    }
+
+    /// The span of its bound with this number, counted from 0.
+    fn span(self, number: usize) -> Span {
         let none = Span {
             line: 0,
             start: 0,
             end: 0,
         };
-        let questions = &self.texts.lines.questions;
-        questions.get(self.place).copied().unwrap_or(none)
+        match self.texts.lines.questions.get(self.place) {
+            Some(found) => found.bound(number).unwrap_or(none),
+            None => none,
+        }
     }
 
-    /// What requires the goal: this query.
-    fn asking(self) -> Asking<'s> {
+    /// What requires the goal of a bound: this query.
+    fn asking(self, found: &BoundWalk) -> Asking<'s> {
         Asking {
-            span: self.span(),
+            span: self.span(found.number),
             depth: self.depth,
             may_run_out: self.may_run_out,
             seen: self.seen,
             supertrait: None,
+            is_narrowed: found.is_narrowed,
+            is_exhausted: found.is_exhausted,
         }
     }
 }
 
-/// The diagnostic for a query that was proved.
-fn tell_proved(
-    alloc: Global,
-    question: Questioned<'_>,
-    session: &Session<'_>,
-    proof: &ProofWalk,
-) -> Result<Diagnostic, AllocError>
-    requires walked { ProofWalkHeld session.now.terms proof.now }
-    requires proof { (n : ℕ) × ShowsProofOf session.now n proof.now }
-{
-    let claims = no_claims(alloc);
-    let told = tell_proof(
-        alloc,
-        question.texts,
-        session,
-        &question.names(),
-        proof,
-        &claims,
-    )?;
-    proved(alloc, &told, question.span())
+/// An answer `yes`: to the query with this number, counted from 1, with these values.
+#[derive(Clone, Copy)]
+struct YesAnswer<'v> {
+    number: u32,
+    values: &'v [GenericArgKind],
 }
 
-/// Explains the answer `yes` with these values.
+/// The proof of the bound with this number, counted from 0, of a query that was proved.
+fn find_proof(
+    session: &mut Session<'_>,
+    yes: YesAnswer<'_>,
+    bound: usize,
+    spending: &mut Spending,
+) -> Result<ProofWalk, Fault>
+    requires asked { (q : Question) × AsksProof session.old.declarations session.old.of_crate yes.number q }
+    requires values { ArgsHeld session.old.terms yes.values.now }
+    ensures walked { IfOk result (ProofWalkHeld session.new.terms) }
+    ensures proof { IfOk result (ShowsProofOf session.new yes.entry.number bound) }
+    ensures stays { StaysOn session.old session.new }
+{
+    let before = session.frames();
+    let proof = explain_proof(session, yes.number, bound, yes.values)?;
+    spending.add_explanation(before, session.frames(), proof.walk.nodes.len());
+    Ok(proof)
+}
+
+/// Renders the proof of a bound of a query. The caller must prove that the steps are a proof, if they are displayed as checked.
+fn speak_proof<'w>(
+    alloc: Global,
+    question: Questioned<'w>,
+    session: &Session<'_>,
+    proof: &'w ProofWalk,
+    claims: &'w Claims,
+) -> Result<ToldProof<'w>, AllocError>
+    requires walked { ProofWalkHeld session.now.terms proof.now }
+    requires proof { (n m : ℕ) × ShowsProofOf session.now n m proof.now }
+    requires claims { ClaimsHold session.now proof.now.walk claims.now }
+{
+    let names = question.names();
+    tell_proof(alloc, question.texts, session, &names, proof, claims)
+}
+
+/// Explains the answer `yes` of a query with one bound.
+fn explain_one(
+    alloc: Global,
+    question: Questioned<'_>,
+    session: &mut Session<'_>,
+    yes: YesAnswer<'_>,
+    spending: &mut Spending,
+) -> Result<Diagnostic, Fault>
+    requires asked { (q : Question) × AsksProof session.old.declarations session.old.of_crate yes.number q }
+    requires values { ArgsHeld session.old.terms yes.values.now }
+    ensures { StaysOn session.old session.new }
+{
+    let proof = find_proof(session, yes, 0, spending)?;
+    let claims = no_claims(alloc);
+    let told = speak_proof(alloc, question, session, &proof, &claims)?;
+    Ok(proved(alloc, &told, question.span(0))?)
+}
+
+/// Adds the proof of the bound with this number, counted from 0. Returns whether no row is left out.
+fn explain_bound(
+    question: Questioned<'_>,
+    session: &mut Session<'_>,
+    yes: YesAnswer<'_>,
+    bound: usize,
+    telling: &mut Telling,
+    spending: &mut Spending,
+) -> Result<bool, Fault>
+    requires asked { (q : Question) × AsksProof session.old.declarations session.old.of_crate yes.number q }
+    requires values { ArgsHeld session.old.terms yes.values.now }
+    ensures { StaysOn session.old session.new }
+{
+    let proof = find_proof(session, yes, bound, spending)?;
+    let claims = no_claims(telling.alloc());
+    let told = speak_proof(telling.alloc(), question, session, &proof, &claims)?;
+    telling.mark(question.span(bound), plain(""));
+    Ok(told.tell_all(rows_of_each(question.bound_count()), telling))
+}
+
+/// Explains the answer `yes` of a query with several bounds: the proof of each, as long as explanations may go on.
+fn explain_each(
+    alloc: Global,
+    question: Questioned<'_>,
+    session: &mut Session<'_>,
+    yes: YesAnswer<'_>,
+    spending: &mut Spending,
+) -> Result<Diagnostic, Fault>
+    requires asked { (q : Question) × AsksProof session.old.declarations session.old.of_crate yes.number q }
+    requires values { ArgsHeld session.old.terms yes.values.now }
+    ensures { StaysOn session.old session.new }
+{
+    let count = question.bound_count();
+    let mut telling = begin_proofs(alloc, count);
+    let mut is_whole = true;
+    for bound in 0..count {
+        if bound > 0 && spending.is_over() {
+            is_whole = false;
+            break;
+        }
+        let is_all = explain_bound(question, session, yes, bound, &mut telling, spending)?;
+        is_whole = is_whole && is_all;
+    }
+    if !is_whole {
+        tell_rest(&mut telling);
+    }
+    Ok(telling.finish()?)
+}
+
+/// Explains the answer `yes`.
 fn explain_yes(
     alloc: Global,
     question: Questioned<'_>,
     session: &mut Session<'_>,
-    number: u32,
-    values: &[GenericArgKind],
+    yes: YesAnswer<'_>,
     spending: &mut Spending,
 ) -> Result<Diagnostic, Fault>
-    requires asked { (q : Question) × AsksProof session.old.declarations session.old.of_crate number q }
-    requires values { ArgsHeld session.old.terms values.now }
+    requires asked { (q : Question) × AsksProof session.old.declarations session.old.of_crate yes.number q }
+    requires values { ArgsHeld session.old.terms yes.values.now }
     ensures { StaysOn session.old session.new }
 {
-    let before = session.frames();
-    let proof = explain_proof(session, number, values)?;
-    spending.add_explanation(before, session.frames(), proof.walk.nodes.len());
-    Ok(tell_proved(alloc, question, session, &proof)?)
+    if question.bound_count() == 1 {
+        explain_one(alloc, question, session, yes, spending)
+    } else {
+        explain_each(alloc, question, session, yes, spending)
+    }
 }
 
 /// The diagnostic for a query that was not proved.
@@ -138,18 +238,19 @@ fn tell_not_proved(
     alloc: Global,
     question: Questioned<'_>,
     session: &Session<'_>,
-    walk: &GoalWalk,
+    found: &BoundWalk,
     claims: &Claims,
     answer: NotProved,
 ) -> Result<Diagnostic, AllocError>
-    requires walked { WalkHeld session.now.terms walk.now }
-    requires claims { ClaimsHold session.now walk.now claims.now }
+    requires walked { WalkHeld session.now.terms found.now.walk }
+    requires claims { ClaimsHold session.now found.now.walk claims.now }
 {
     let names = question.names();
-    let story = tell(alloc, question.texts, session, &names, walk, claims)?;
+    let story = tell(alloc, question.texts, session, &names, &found.walk, claims)?;
+    let asking = question.asking(found);
     match answer {
-        NotProved::Unproved => unproved(alloc, &story, question.asking()),
-        NotProved::Maybe => unsettled(alloc, &story, question.asking()),
+        NotProved::Unproved => unproved(alloc, &story, asking),
+        NotProved::Maybe => unsettled(alloc, &story, asking),
     }
 }
 
@@ -166,10 +267,10 @@ fn explain_not_proved(
     ensures { StaysOn session.old session.new }
 {
     let before = session.frames();
-    let walk = explain_question(session, number)?;
-    let claims = question_claims(session, &walk)?;
-    spending.add_explanation(before, session.frames(), walk.nodes.len());
-    Ok(tell_not_proved(alloc, question, session, &walk, &claims, answer)?)
+    let found = explain_question(session, number)?;
+    let claims = question_claims(session, &found.walk)?;
+    spending.add_explanation(before, session.frames(), found.walk.nodes.len());
+    Ok(tell_not_proved(alloc, question, session, &found, &claims, answer)?)
 }
 
 /// Explains the answer of a `prove` query of the session's crate. Queries count from 1. The session stays as it was, after a fault too.
@@ -187,7 +288,8 @@ pub(crate) fn explain_proved(
 {
     let told = match answer {
         ProveAnswer::Yes(values) => {
-            explain_yes(alloc, question, session, number, values, spending)?
+            let yes = YesAnswer { number, values };
+            explain_yes(alloc, question, session, yes, spending)?
         }
         ProveAnswer::Maybe(_) => {
             explain_not_proved(alloc, question, session, number, NotProved::Maybe, spending)?
@@ -211,19 +313,19 @@ fn tell_refutation(
     alloc: Global,
     question: Questioned<'_>,
     session: &Session<'_>,
-    walk: &GoalWalk,
+    found: &BoundWalk,
     claims: &Claims,
     answer: RefuteAnswer,
 ) -> Result<Diagnostic, AllocError>
-    requires walked { WalkHeld session.now.terms walk.now }
-    requires claims { ClaimsHold session.now walk.now claims.now }
+    requires walked { WalkHeld session.now.terms found.now.walk }
+    requires claims { ClaimsHold session.now found.now.walk claims.now }
 {
     let names = question.names();
-    let story = tell(alloc, question.texts, session, &names, walk, claims)?;
-    let span = question.span();
+    let story = tell(alloc, question.texts, session, &names, &found.walk, claims)?;
+    let asking = question.asking(found);
     match answer {
-        RefuteAnswer::No => refuted(alloc, &story, span),
-        RefuteAnswer::Open => left_open(alloc, &story, question.asking()),
+        RefuteAnswer::No => refuted(alloc, &story, asking),
+        RefuteAnswer::Open => left_open(alloc, &story, asking),
     }
 }
 
@@ -240,9 +342,9 @@ pub(crate) fn explain_refuted(
     ensures { StaysOn session.old session.new }
 {
     let before = session.frames();
-    let walk = explain_refutation(session, number)?;
-    let claims = refutation_claims(session, &walk)?;
-    spending.add_explanation(before, session.frames(), walk.nodes.len());
-    let told = tell_refutation(alloc, question, session, &walk, &claims, answer)?;
+    let found = explain_refutation(session, number)?;
+    let claims = refutation_claims(session, &found.walk)?;
+    spending.add_explanation(before, session.frames(), found.walk.nodes.len());
+    let told = tell_refutation(alloc, question, session, &found, &claims, answer)?;
     Ok(Some(told))
 }

@@ -101,6 +101,8 @@ fn explain_unheld(
         may_run_out,
         seen,
         supertrait: Some(unheld.number),
+        is_narrowed: false,
+        is_exhausted: false,
     };
     let told = explain_walk(texts, session, &walk, &claims, unheld, asking)?;
     Ok(Some(told))

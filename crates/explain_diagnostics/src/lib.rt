@@ -26,7 +26,7 @@ pub use answer_parts::own_fault;
 pub use cut::{LIST_LIMIT, TYPE_LIMIT, cut_text};
 pub use diagnostic::{Diagnostic, ErrCode, Level, ProofRow, SpanLabel, Subdiagnostic};
 pub use json::{json_fault, json_line};
-pub use parts::{LineParts, parts_of_impl, parts_of_question};
+pub use parts::{LineParts, bounds_of_question, parts_of_impl};
 pub use rendering::render;
 pub use source::{OwnLine, Part, SourceFile, own_line};
 pub use span::{Place, Span, on_line};

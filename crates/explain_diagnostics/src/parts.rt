@@ -1,4 +1,4 @@
-//! The parts of an impl's line and of a query's line.
+//! The parts of an impl's line, and the bounds of a query's line.
 
 ghost use Rattle.std.specs.Prelude.{◌<◌, ◌≤◌, length, All, IfOk, IfSome};
 ghost use Rattle.explain_diagnostics.specs.Places.{IsPartOfLine, IsPartOf};
@@ -7,10 +7,10 @@ use crate::span::Place;
 use crate::tokens::{text_of, token_places};
 use std::alloc::{AllocError, Global};
 
-/// The parts of a line with a bound: `impl<T> Show for V<T> where T: Show`, or `prove in base <T> V<T>: Show where T: Show`.
+/// The parts of an impl's line: `impl<T> Show for V<T> where T: Show`.
 #[derive(Drop)]
 pub struct LineParts {
-    /// The bound and the type in the order of the line: `Show for V<T>`, `V<T>: Show`.
+    /// The bound and the type: `Show for V<T>`.
     pub header: Place,
     /// The trait with its arguments.
     pub bound: Place,
@@ -103,53 +103,41 @@ fn behind_params(line: &[u8], tokens: &[Place], from: usize) -> usize
     }
 }
 
-/// The parts of a line from a token on: one before the word and one after it. These are the trait and the type, or the other way round.
+/// The parts of an impl's line, whose bound begins at this token.
 fn parts_from(
     alloc: Global,
     line: &[u8],
     tokens: &[Place],
     from: usize,
-    word: &[u8],
-    is_type_first: bool,
 ) -> Result<Option<LineParts>, AllocError>
     requires { from ≤ length tokens.now }
 {
     let end = find_outside(line, tokens, from, b"where");
-    let split = find_outside(line, tokens, from, word);
+    let split = find_outside(line, tokens, from, b"for");
     let behind = split.saturating_add(1);
     if split == from || end <= behind {
         return Ok(None);
     }
     let clauses = list_places(alloc, line, tokens, end.saturating_add(1))?;
-    let first = between(tokens, from, split);
-    let second = between(tokens, behind, end);
     Ok(Some(LineParts {
         header: between(tokens, from, end),
-        bound: if is_type_first { second } else { first },
-        subject: if is_type_first { first } else { second },
+        bound: between(tokens, from, split),
+        subject: between(tokens, behind, end),
         clauses,
     }))
 }
 
-/// The parts of a line after this many tokens and the parameters.
-fn parts_behind(
-    alloc: Global,
-    line: &[u8],
-    skipped: usize,
-    word: &[u8],
-    is_type_first: bool,
-) -> Result<Option<LineParts>, AllocError> {
-    let tokens = token_places(alloc, line)?;
-    let from = behind_params(line, &tokens, skipped);
-    parts_from(alloc, line, &tokens, from, word, is_type_first)
-}
-
 /// The parts of an impl's line. `None` if the line has another form. Fails only if memory is refused.
 pub fn parts_of_impl(alloc: Global, line: &[u8]) -> Result<Option<LineParts>, AllocError> {
-    parts_behind(alloc, line, 1, b"for", false)
+    let tokens = token_places(alloc, line)?;
+    let from = behind_params(line, &tokens, 1);
+    parts_from(alloc, line, &tokens, from)
 }
 
-/// The parts of a query's line. `None` if the line has another form. Fails only if memory is refused.
-pub fn parts_of_question(alloc: Global, line: &[u8]) -> Result<Option<LineParts>, AllocError> {
-    parts_behind(alloc, line, 3, b":", true)
+/// The queried bounds of a query's line, in their order. Of a line of another form they may be any parts. Fails only if memory is refused.
+pub fn bounds_of_question(alloc: Global, line: &[u8]) -> Result<Vec<Place>, AllocError> {
+    let tokens = token_places(alloc, line)?;
+    let from = behind_params(line, &tokens, 3);
+    let end = find_outside(line, &tokens, from, b"where");
+    list_places(alloc, line, &tokens[..end], from)
 }

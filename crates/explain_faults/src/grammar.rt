@@ -10,15 +10,15 @@ use text_lines::{Token, tokens};
 /// A part begins with a capital letter. `@` stands before what a name is used as, `'` before what a lifetime, `?` a variable, `#` a number
 /// and `%` a primitive type; any other symbol is the token itself. A way begins with a token, or with `Type`, or is empty: then the part may
 /// be left out. The rows are texts, since the prover reads a table of lists slowly.
-static GRAMMAR: [&str; 89] = [
+static GRAMMAR: [&str; 92] = [
     "Line crate @own Uses",
     "Line fundamental Fundamental",
     "Line struct @own Params Fields",
     "Line auto trait @own Params Bounds",
     "Line trait @own Params Bounds",
     "Line impl Params @trait Args for Type Where",
-    "Line prove in @crate Params Type : @trait Args Where",
-    "Line refute in @crate Params Type : @trait Args",
+    "Line prove in @crate Params Type : @trait Args MoreAsked",
+    "Line refute in @crate Params Type : @trait Args MoreClauses",
     "Line later @crate",
     "Line supers in @crate",
     "Fundamental struct @own Params Fields",
@@ -36,6 +36,9 @@ static GRAMMAR: [&str; 89] = [
     "Bounds",
     "MoreBounds + @trait Args MoreBounds",
     "MoreBounds",
+    "MoreAsked , Type : @trait Args MoreAsked",
+    "MoreAsked where Type : @trait Args MoreClauses",
+    "MoreAsked",
     "Where where Type : @trait Args MoreClauses",
     "Where",
     "MoreClauses , Type : @trait Args MoreClauses",

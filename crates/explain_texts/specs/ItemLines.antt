@@ -3,6 +3,7 @@ use Rattle.std.specs.Prelude.{◌≡◌, ℕ, ◌+◌, ◌<◌, ◌≤◌, Bool,
 use Rattle.explain_diagnostics.specs.declared.span.Span.{Span}
 use Rattle.explain_texts.specs.declared.lines.ImplLine.{ImplLine}
 use Rattle.explain_texts.specs.declared.lines.ItemLines.{ItemLines}
+use Rattle.explain_texts.specs.declared.lines.QuestionLine.{QuestionLine}
 
 -- The numbers of the lines, one for each span.
 abbrev pub line_numbers : List Span → List ℕ
@@ -11,6 +12,10 @@ line_numbers = map (λ (s : Span). s.line)
 -- The numbers of the lines of impls.
 abbrev pub impl_numbers : List ImplLine → List ℕ
 impl_numbers = map (λ (i : ImplLine). i.line)
+
+-- The numbers of the lines of queries.
+abbrev pub question_numbers : List QuestionLine → List ℕ
+question_numbers = map (λ (q : QuestionLine). q.line)
 
 -- This number behind the others, if the line belongs there.
 abbrev pub with_number : Bool → List ℕ → ℕ → List ℕ

@@ -1,4 +1,4 @@
-//! The text for a goal that is ambiguous: several candidates, a variable, the depth limit, or a cycle.
+//! The text for a goal that is ambiguous: several candidates, a variable, the depth limit, a cycle, or values without end.
 
 ghost use Rattle.std.specs.Prelude.{◌≡◌, ◌<◌, ◌≤◌, ◌⊎◌, if◌then◌else◌, IfOk, IfSome};
 ghost use Rattle.messages.specs.Told.{IsAbout, KeepsMessage};
@@ -6,7 +6,7 @@ ghost use Rattle.explain_texts.specs.Doubts.{is_overflow};
 
 use crate::failures::{Asking, tell_implemented};
 use crate::items::{Texts, impl_line, mark_parts};
-use crate::links::{last_of, tell_links, tell_supertrait};
+use crate::links::{last_of, tell_links, tell_narrowed, tell_supertrait};
 use crate::open_questions::chance;
 use crate::sources::source_piece;
 use crate::story::{Story, unsure_premise};
@@ -27,6 +27,8 @@ enum Doubt {
     Either,
     /// A goal needs itself.
     Cycle,
+    /// The answers to a bound of a query have values again and again.
+    Growth,
     /// More than one candidate is left.
     Ways,
     /// An argument is a variable.
@@ -109,12 +111,19 @@ fn doubtful_premise(story: &Story<'_>, place: usize) -> Option<usize> {
 }
 
 /// The goals from index 0 down, each of which makes the one above ambiguous. The last one is ambiguous by itself: it has more than one
-/// candidate, or a variable, or is as deep as goals are looked at.
-fn doubtful_path(alloc: Global, story: &Story<'_>) -> Result<Vec<usize>, AllocError> {
+/// candidate, or a variable, or is as deep as goals are looked at. If the goal at index 0 is exhausted, that is the last one.
+fn doubtful_path(
+    alloc: Global,
+    story: &Story<'_>,
+    is_exhausted: bool,
+) -> Result<Vec<usize>, AllocError> {
     let mut path = Vec::new(alloc);
     let mut at = 0usize;
     for _goal in 0..story.len() {
         path.push(at)?;
+        if is_exhausted {
+            return Ok(path);
+        }
         match doubtful_premise(story, at) {
             Some(premise) => at = premise,
             None => return Ok(path),
@@ -124,10 +133,12 @@ fn doubtful_path(alloc: Global, story: &Story<'_>) -> Result<Vec<usize>, AllocEr
 }
 
 /// Why the goal at index 0 is ambiguous, if its path of goals ends here.
-fn doubt_of(story: &Story<'_>, leaf: usize, may_run_out: bool) -> Doubt {
-    if story.is_cycle(leaf) {
+fn doubt_of(story: &Story<'_>, leaf: usize, asking: Asking<'_>) -> Doubt {
+    if asking.is_exhausted {
+        Doubt::Growth
+    } else if story.is_cycle(leaf) {
         Doubt::Cycle
-    } else if overflows(story) && story.is_cut(leaf) && !may_run_out {
+    } else if overflows(story) && story.is_cut(leaf) && !asking.may_run_out {
         Doubt::Depth
     } else if overflows(story) && (story.is_cut(leaf) || story.is_left_out(leaf)) {
         Doubt::Either
@@ -147,7 +158,9 @@ fn code_of(doubt: Doubt) -> ErrCode
     ensures { result ≡ if is_overflow doubt then ErrCode.E0275 else ErrCode.E0283 }
 {
     match doubt {
-        Doubt::Depth | Doubt::Limits | Doubt::Either | Doubt::Cycle => ErrCode::E0275,
+        Doubt::Depth | Doubt::Limits | Doubt::Either | Doubt::Cycle | Doubt::Growth => {
+            ErrCode::E0275
+        }
         Doubt::Ways | Doubt::Open | Doubt::Other => ErrCode::E0283,
     }
 }
@@ -155,7 +168,7 @@ fn code_of(doubt: Doubt) -> ErrCode
 /// The message.
 fn message_of<'s>(story: &'s Story<'_>, doubt: Doubt, leaf: usize) -> Sentence<'s> {
     let (template, place) = match doubt {
-        Doubt::Depth | Doubt::Limits | Doubt::Either => (
+        Doubt::Depth | Doubt::Limits | Doubt::Either | Doubt::Growth => (
             "overflow evaluating the requirement `{}`",
             0,
         ),
@@ -184,6 +197,10 @@ fn said_at<'s>(story: &'s Story<'_>, doubt: Doubt, leaf: usize, depth: u32) -> S
         Doubt::Cycle => with_one(
             "`{}` needs itself: such a cycle proves nothing and refuses nothing",
             reference,
+        ),
+        Doubt::Growth => with_one(
+            "each answer fixes more, up to the depth limit {}",
+            Piece::Number(depth as usize),
         ),
         Doubt::Ways => plain("more than one way is left"),
         Doubt::Open => with_one(
@@ -269,7 +286,7 @@ fn tell_doubt(
 {
     match doubt {
         Doubt::Ways => tell_ways(story, leaf, telling),
-        Doubt::Depth => tell_deeper(asking.depth, telling),
+        Doubt::Depth | Doubt::Growth => tell_deeper(asking.depth, telling),
         Doubt::Limits => tell_given_up(telling),
         Doubt::Open => tell_implemented(story, leaf, asking.seen, None, telling),
         Doubt::Either | Doubt::Cycle | Doubt::Other => {}
@@ -284,14 +301,15 @@ pub fn unsettled(
 ) -> Result<Diagnostic, AllocError>
     ensures { IfOk result (λ d. IsAbout Level.Error d.code asking.entry.span d) }
 {
-    let path = doubtful_path(alloc, story)?;
+    let path = doubtful_path(alloc, story, asking.is_exhausted)?;
     let leaf = last_of(&path);
-    let doubt = doubt_of(story, leaf, asking.may_run_out);
+    let doubt = doubt_of(story, leaf, asking);
     let message = message_of(story, doubt, leaf);
     let mut telling = Telling::begin(alloc, Level::Error, Some(code_of(doubt)), message);
     telling.mark(asking.span, said_at(story, doubt, leaf, asking.depth));
     tell_links(story, &path, &mut telling);
     tell_supertrait(story, asking.supertrait, &mut telling);
+    tell_narrowed(story, asking.is_narrowed, &mut telling);
     tell_doubt(story, doubt, leaf, asking, &mut telling);
     telling.finish()
 }

@@ -5,7 +5,7 @@ ghost use Rattle.messages.specs.Told.{IsAbout, KeepsMessage};
 
 use crate::items::{Texts, has_rules, impl_line, impl_piece, is_auto, trait_name, written};
 use crate::lines::ImplLine;
-use crate::links::{impl_above, last_of, tell_links, tell_supertrait};
+use crate::links::{impl_above, last_of, tell_links, tell_narrowed, tell_supertrait};
 use crate::refused::{Refusal, tell_refused};
 use crate::spoken::SubjectKind;
 use crate::story::{Story, refused_premise};
@@ -28,6 +28,10 @@ pub struct Asking<'s> {
     pub seen: &'s [ImplId],
     /// The number of the supertrait, counted from 1, if a header requires it. `None` for a query.
     pub supertrait: Option<u32>,
+    /// Whether the bounds of the query fix variables of this one.
+    pub is_narrowed: bool,
+    /// Whether the answers to this bound had values as often as is allowed.
+    pub is_exhausted: bool,
 }
 
 /// The nested goal that makes a goal fail: that of its one candidate, if it is refused.
@@ -250,6 +254,7 @@ pub fn unproved(
     telling.mark(asking.span, said_at(story, leaf));
     tell_links(story, &path, &mut telling);
     tell_supertrait(story, asking.supertrait, &mut telling);
+    tell_narrowed(story, asking.is_narrowed, &mut telling);
     tell_leaf(story, leaf, &mut telling);
     tell_helps(story, &path, asking, &mut telling);
     telling.finish()

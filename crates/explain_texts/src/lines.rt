@@ -1,10 +1,10 @@
 //! Where the structs, the impls and the queries of a text are.
 
 ghost use Rattle.std.specs.Prelude.{◌≡◌, ◌∷◌, ◌++◌, [], IfSome, OnOk};
-ghost use Rattle.explain_texts.specs.ItemLines.{AddsImplLine, line_numbers};
+ghost use Rattle.explain_texts.specs.ItemLines.{AddsImplLine, line_numbers, question_numbers};
 
 use explain_diagnostics::{
-    LineParts, Place, SourceFile, Span, on_line, parts_of_impl, parts_of_question,
+    LineParts, Place, SourceFile, Span, bounds_of_question, on_line, parts_of_impl,
 };
 use explain_sessions::text_lines::Statement;
 use messages::whole_line;
@@ -35,6 +35,23 @@ impl ImplLine {
     }
 }
 
+/// The line of a query, counted from 1, with its bounds.
+#[derive(Drop)]
+pub struct QuestionLine {
+    pub line: u32,
+    bounds: Vec<Place>,
+}
+
+impl QuestionLine {
+    /// The span of its bound with this number, counted from 0.
+    pub fn bound(&self, number: usize) -> Option<Span>
+        ensures { IfSome result (λ s. s.line ≡ self.now.line) }
+    {
+        let place = self.bounds.get(number)?;
+        Some(on_line(self.line, *place))
+    }
+}
+
 /// Where the structs, the impls and the queries of a text are, in order.
 pub struct ItemLines {
     /// The lines of structs.
@@ -45,8 +62,8 @@ pub struct ItemLines {
     added: Vec<ImplLine>,
     /// For each section, how many impls of sections come before it.
     sections: Vec<usize>,
-    /// The bound of each query.
-    pub questions: Vec<Span>,
+    /// The lines of queries.
+    pub questions: Vec<QuestionLine>,
     /// Whether a section is open.
     in_section: bool,
 }
@@ -78,14 +95,6 @@ fn impl_parts(alloc: Global, line: &[u8]) -> Result<LineParts, AllocError> {
     }
 }
 
-/// The bound of a query. If it is not found, the whole line.
-fn asked_place(alloc: Global, line: &[u8]) -> Result<Place, AllocError> {
-    match parts_of_question(alloc, line)? {
-        Some(parts) => Ok(parts.header),
-        None => Ok(whole_line(line)),
-    }
-}
-
 impl ItemLines {
     /// Adds the line of an impl.
     fn add_impl(&mut self, alloc: Global, number: u32, line: &[u8]) -> Result<(), AllocError>
@@ -106,10 +115,13 @@ impl ItemLines {
 
     /// Adds the line of a query.
     fn add_question(&mut self, alloc: Global, number: u32, line: &[u8]) -> Result<(), AllocError>
-        ensures { OnOk result (line_numbers self.new.questions.items ≡ line_numbers self.old.questions.items ++ number ∷ []) }
+        ensures { OnOk result (question_numbers self.new.questions.items ≡ question_numbers self.old.questions.items ++ number ∷ []) }
     {
-        let place = asked_place(alloc, line)?;
-        self.questions.push(on_line(number, place))?;
+        let bounds = bounds_of_question(alloc, line)?;
+        self.questions.push(QuestionLine {
+            line: number,
+            bounds,
+        })?;
         Ok(())
     }
 

@@ -198,6 +198,18 @@ pub(crate) fn tell_supertrait(story: &Story<'_>, supertrait: Option<u32>, tellin
     ));
 }
 
+/// Adds the note what the bounds of a query make of the one that is the goal at index 0, if they fix variables of it.
+pub(crate) fn tell_narrowed(story: &Story<'_>, is_narrowed: bool, telling: &mut Telling)
+    ensures { KeepsMessage telling.old telling.new }
+{
+    if is_narrowed {
+        telling.note(with_one(
+            "with what the bounds of the query fix, this one is `{}`",
+            story.reference(0),
+        ));
+    }
+}
+
 /// Adds the notes for what requires the goals of a path, from the inside out. For goals in a row by one impl, only the first and the last
 /// are added.
 pub(crate) fn tell_links(story: &Story<'_>, path: &[usize], telling: &mut Telling)

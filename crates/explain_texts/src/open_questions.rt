@@ -5,7 +5,9 @@ ghost use Rattle.messages.specs.Marked.{is_marked, says_unchecked};
 ghost use Rattle.messages.specs.Told.{IsAbout, KeepsMessage};
 ghost use Rattle.explain_texts.specs.Claimed.{claims_chance, claims_rule};
 
+use crate::doubts::tell_deeper;
 use crate::failures::Asking;
+use crate::links::tell_narrowed;
 use crate::reasons::{Reason, is_left, open_path, reason_of, tell_limit, tell_path};
 use crate::sources::source_piece;
 use crate::spoken::SubjectKind;
@@ -13,7 +15,7 @@ use crate::story::Story;
 use explain_diagnostics::{Diagnostic, LIST_LIMIT, Level};
 use explain_sessions::explain_traces::{Answer, CandidateNode};
 use explain_sessions::goal_evaluator::Certainty;
-use messages::{Sentence, Telling, plain, with_one};
+use messages::{Piece, Sentence, Telling, plain, with_one, with_two};
 use std::alloc::{AllocError, Global};
 
 /// The sentence for a candidate that may apply, which says so if that was not checked.
@@ -69,10 +71,27 @@ fn tell_ways(story: &Story<'_>, telling: &mut Telling)
     }
 }
 
+/// Adds that the answers to the bound had values as often as is allowed.
+fn tell_growth(story: &Story<'_>, asking: Asking<'_>, telling: &mut Telling)
+    ensures { KeepsMessage telling.old telling.new }
+{
+    telling.note(with_two(
+        "`{}` is not refused: each answer fixes more, up to the depth limit {}",
+        story.reference(0),
+        Piece::Number(asking.depth as usize),
+    ));
+    tell_deeper(asking.depth, telling);
+}
+
 /// Adds why the question is open, on the path to the goal that leaves it so.
 fn tell_open(story: &Story<'_>, path: &[usize], asking: Asking<'_>, telling: &mut Telling)
     ensures { KeepsMessage telling.old telling.new }
 {
+    tell_narrowed(story, asking.is_narrowed, telling);
+    if asking.is_exhausted {
+        tell_growth(story, asking, telling);
+        return;
+    }
     let mut reason = reason_of(story, 0, asking);
     if path.len() > 1 || !matches!(reason, Reason::Open) {
         reason = tell_path(story, path, asking, telling);

@@ -5,11 +5,13 @@ ghost use Rattle.messages.specs.Marked.{is_marked};
 ghost use Rattle.messages.specs.Told.{IsAbout, KeepsMessage};
 ghost use Rattle.explain_texts.specs.Claimed.{claims_of};
 
+use crate::failures::Asking;
 use crate::items::{Texts, has_rules, is_fundamental, trait_name};
+use crate::links::tell_narrowed;
 use crate::refused::{Refusal, tell_refused};
 use crate::spoken::Spoken;
 use crate::story::Story;
-use explain_diagnostics::{Diagnostic, Level, Span};
+use explain_diagnostics::{Diagnostic, Level};
 use explain_sessions::Adder;
 use explain_sessions::orphan_check::errors::Conflict;
 use messages::{Piece, Sentence, Telling, plain, with_one, with_three, with_two};
@@ -80,9 +82,10 @@ fn unseen_why<'s>(
 }
 
 /// Adds why nothing in the view, and nothing outside it, proves the trait reference.
-fn tell_whys(story: &Story<'_>, telling: &mut Telling)
+fn tell_whys(story: &Story<'_>, is_narrowed: bool, telling: &mut Telling)
     ensures { KeepsMessage telling.old telling.new }
 {
+    tell_narrowed(story, is_narrowed, telling);
     tell_refused(story, 0, Refusal::NoCrate, telling);
     let Some(spoken) = story.spoken(0) else {
         return;
@@ -95,16 +98,20 @@ fn tell_whys(story: &Story<'_>, telling: &mut Telling)
     }
 }
 
-/// The diagnostic for a query that was answered `no`, at this span.
-pub fn refuted(alloc: Global, story: &Story<'_>, span: Span) -> Result<Diagnostic, AllocError>
-    ensures { IfOk result (IsAbout Level.Note None span) }
+/// The diagnostic for a query that was answered `no`.
+pub fn refuted(
+    alloc: Global,
+    story: &Story<'_>,
+    asking: Asking<'_>,
+) -> Result<Diagnostic, AllocError>
+    ensures { IfOk result (IsAbout Level.Note None asking.entry.span) }
 {
     let message = with_one(
         "no crate that may be linked with this one can make `{}` hold",
         story.reference(0),
     );
     let mut telling = Telling::begin(alloc, Level::Note, None, message);
-    telling.mark(span, plain(""));
-    tell_whys(story, &mut telling);
+    telling.mark(asking.span, plain(""));
+    tell_whys(story, asking.is_narrowed, &mut telling);
     telling.finish()
 }
