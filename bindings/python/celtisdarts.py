@@ -649,14 +649,14 @@ class Session:
     def prove(self, question: str) -> ProveAnswer:
         """Whether a reference has a proof by the rules that the crate sees.
 
-        The question is what stands behind `prove in NAME` in a text: `[params] type: bound [where]`, with a line feed at its end or none.
+        The question is what stands behind `prove in NAME` in a text: `[params] type: bound, .. [where]`, with a line feed at its end or none.
         Raises QuestionFault, SeveralLines, TooLong, OutOfMemory and TableFull.
         """
         return self.ask(f"prove in {self.crate_name} {to_question(question)}")  # type: ignore[return-value]
 
     def refute(self, question: str) -> RefuteAnswer:
         """Whether no crate that may be linked with this one can give a reference a proof. The question is what stands behind `refute in
-        NAME` in a text: `type: bound`. Raises what `prove` raises."""
+        NAME` in a text: `type: bound, ..`. Raises what `prove` raises."""
         return self.ask(f"refute in {self.crate_name} {to_question(question)}")  # type: ignore[return-value]
 
     def ask(self, line: Union[str, bytes]) -> Union[ProveAnswer, RefuteAnswer]:

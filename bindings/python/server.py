@@ -1,6 +1,6 @@
 """Answers requests over standard input and output, one a line: python3 server.py TEXT
 
-A request is a JSON object: an `id` (an integer or a string), a `crate`, and one of `prove` and `refute` (a bound) and `check` (true). The
+A request is a JSON object: an `id` (an integer or a string), a `crate`, and one of `prove` and `refute` (bounds) and `check` (true). The
 response has the same `id`, and the `answer` with its parts, or an `error`. `unproved` says that the crate sees no impl that gives a proof,
 and `no` that no linked crate can add one. `maybe` and `open` are undecided. A session is kept for each crate, so later answers take less
 time. After a faulty request the server goes on. It ends with its input. The status is 2 if the word or the text is wrong.

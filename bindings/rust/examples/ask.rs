@@ -13,7 +13,7 @@ fn main() -> Result<(), Error> {
     let workspace = Workspace::parse(TEXT, Depth::default())?;
     let mut session = workspace.session("a")?;
     println!("crate a: {}", session.check_crate()?);
-    for question in ["V<u8>: Show", "V<bool>: Show", "fn(u8): Fn<?x>"] {
+    for question in ["V<u8>: Show", "V<bool>: Show", "fn(u8): Fn<?x>, ?x: Clone"] {
         println!("{question}: {}", session.prove(question)?);
     }
     println!("bool: Show: {}", session.refute("bool: Show")?);

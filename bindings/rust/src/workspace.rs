@@ -194,7 +194,7 @@ impl Session {
 
     /// Whether a reference has a proof by the rules that the crate sees.
     ///
-    /// The question is what stands behind `prove in NAME` in a text: `[params] type: bound [where]`, with a line feed at its end or none.
+    /// The question is what stands behind `prove in NAME` in a text: `[params] type: bound, .. [where]`, with a line feed at its end or none.
     ///
     /// # Errors
     ///
@@ -207,7 +207,7 @@ impl Session {
     }
 
     /// Whether no crate that may be linked with this one can give a reference a proof. The question is what stands behind `refute in
-    /// NAME` in a text: `type: bound`.
+    /// NAME` in a text: `type: bound, ..`.
     ///
     /// # Errors
     ///
