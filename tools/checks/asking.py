@@ -35,6 +35,10 @@ FORMS = [
     ("struct W", "asks nothing", "asks nothing"),
     ("crate b", "asks nothing", "asks nothing"),
     ("supers in a", "asks nothing", "asks nothing"),
+    ("prove in a V<u8>: Show, fn(u8): Fn<?x>", "prove 2: yes ?x = (u8,)", "prove 2: yes ?x = (u8,)"),
+    ("V<u8>: Show, V<bool>: Show", "asks nothing", "prove 2: unproved"),
+    ("refute V<u8>: Show, bool: Show", "fault 2", "refute 2: open"),
+    ("V<u8>: Show, W: Show", "asks nothing", "fault 5"),
 ]
 
 

@@ -55,6 +55,8 @@ SERVED: Sequence[tuple[str, dict[str, Any]]] = [
     ("", {"id": None, "error": ""}),
     ("[" * 100_000, {"id": None, "error": ""}),
     ('{"id": 16, "crate": "a", "prove": "A: Show"}', {"id": 16, "answer": "yes", "values": {}}),
+    ('{"id": 17, "crate": "a", "prove": "fn(A): Fn<?x>, A: Show"}', {"id": 17, "answer": "yes", "values": {"x": "(A,)"}}),
+    ('{"id": 18, "crate": "a", "refute": "A: Show, A: Clone"}', {"id": 18, "answer": "no"}),
 ]
 # Wrong words, and a faulty text.
 WRONG = (

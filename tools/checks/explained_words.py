@@ -9,7 +9,7 @@
 For each `prove` and `refute` query, and each unproved supertrait of a header, if its explanation has no variable and is not cut:
 
     a bound that "was not proved", also one that a candidate needs        `prove` does not answer `yes`
-    each row of a proof                                                   `prove` answers `yes`, and a separate checker of proofs finds its rule
+    each row of the proofs of its bounds                                  `prove` answers `yes`, and a separate checker of proofs finds its rule
                                                                           (explained_proofs.py)
     what "no such crate can give", and what no crate can make hold        `refute` answers `no`
     "the impl at line N fits", "applies", "may apply"                     its header and the goal can be one bound
@@ -110,6 +110,15 @@ def read_clauses(text: str, names: Sequence[str]) -> Iterator[Term]:
             reader.take(",")
 
 
+def bounds_of(text: str) -> list[str]:
+    """The bounds of a query: what is between the commas outside of brackets."""
+    found, depth = [""], 0
+    for sign in re.findall(r"->|.", text):
+        depth += (sign in ("<", "(", "[")) - (sign in (">", ")", "]"))
+        found = [*found, ""] if sign == "," and depth == 0 else [*found[:-1], found[-1] + sign]
+    return [it.strip() for it in found]
+
+
 class Scope(NamedTuple):
     """What a claim is about: a crate, with the parameters and where-clauses of a query or an impl."""
 
@@ -134,7 +143,7 @@ class Text:
         self.impls: dict[int, Optional[Impl]] = {}
         self.uses: dict[str, list[str]] = {"core": []}
         self.scopes: list[Scope] = []
-        self.references: list[str] = []
+        self.references: list[list[str]] = []
         self.others: list[str] = []
         crate, in_section = "core", False
         for number, line in enumerate(lines, 1):
@@ -143,7 +152,7 @@ class Text:
             if first in ("prove", "refute"):
                 rest = line.strip().split(None, 2)[2].removeprefix(words[2])
                 self.scopes.append(scope_of(words[2], rest))
-                self.references.append(params_before(rest.partition(" where ")[0])[2].strip())
+                self.references.append(bounds_of(params_before(rest.partition(" where ")[0])[2]))
                 continue
             self.others.append(line)
             if first == "crate":
@@ -354,7 +363,7 @@ class Claims:
         quoted = QUOTED.search(message)
         goal = quoted[1] if quoted else ""
         expected: dict[str, tuple[str, Is]] = {"unproved": ("prove", is_not_yes), "no": ("refute", is_no), "yes": ("prove", is_yes)}
-        if first_word(answer) in expected:
+        if goal and first_word(answer) in expected:
             word, is_right = expected[first_word(answer)]
             self.ask(word, scope, goal, is_right, message)
         # if a limit was met, the message names the query, and the path to it begins with a goal that is not named
@@ -370,9 +379,9 @@ class Claims:
             if found and "not checked" not in row and "assumed" not in row:
                 self.ask("prove", scope, found[1], is_yes, row)
 
-    def check_proof(self, scope: Scope, reference: str, parts: Any, message: Any) -> None:
-        """The proof of a query is one, by a separate checker."""
-        for tree in message["proof"]:
+    def check_proof(self, scope: Scope, references: Sequence[str], parts: Any, message: Any) -> None:
+        """The proofs of the bounds of a query are some, by a separate checker."""
+        for reference, tree in zip(references, message["proof"]):
             is_cut = any(CUT in it["message"] for it in message["children"])
             try:
                 clauses = list(read_clauses(scope.clauses, scope.names))
@@ -502,9 +511,14 @@ def add_query_by_impl(maker: PlainText, crate: str) -> None:
 
     if maker.chance(40):
         params = maker.random.choice([[], ["?x"], ["?x", "?y"]])
-        return maker.lines.append(f"refute in {crate} {maker.reference(crate, 2, 1, params)}")
+        bounds = [maker.reference(crate, 2, 1, params) for _ in range(maker.random.choice([1, 1, 1, 2, 3]))]
+        return maker.lines.append(f"refute in {crate} {', '.join(bounds)}")
     clauses = [filled_by(["P", "u8", "bool"]) for _ in range(maker.random.choice([0, 0, 0, 1, 2]))]
-    maker.lines.append(f"prove in {crate} <P> {filled_by(['?x', 'P', '&?x', '(?x, ?y)'])}" + (f" where {', '.join(clauses)}" if clauses else ""))
+    bounds = [filled_by(["?x", "P", "&?x", "(?x, ?y)"])]
+    while maker.chance(25):
+        bound, _, subject = maker.random.choice(headers).partition(" for ")
+        bounds.append(filled_by(["?x", "?y", "P", "u8"]))
+    maker.lines.append(f"prove in {crate} <P> {', '.join(bounds)}" + (f" where {', '.join(clauses)}" if clauses else ""))
 
 
 def made(given: argparse.Namespace, number: int) -> bytes:

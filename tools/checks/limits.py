@@ -151,6 +151,10 @@ def type_cases() -> Iterator[Case]:
 def clause_cases() -> Iterator[Case]:
     yield from line_pair("# where-clauses", 64, lambda count: f"impl<T> Show for T where {repeated('T: Show', count)}")
     yield from line_pair("# where-clauses of a query", 64, lambda count: f"prove in base <T> T: Show where {repeated('T: Show', count)}", "prove 1: yes")
+    yield from line_pair("# bounds of a query", 64, lambda count: f"prove in base {repeated('u8: Sized', count)}", "prove 1: yes")
+    yield from line_pair("# bounds of a query with a where-clause", 64, lambda count: f"prove in base <T> {repeated('T: Show', count)} where T: Show", "prove 1: yes")
+    yield from line_pair("# bounds in refute", 64, lambda count: f"refute in base {repeated('u8: Show', count)}", "refute 1: no")
+    yield from line_pair("# variables in as many bounds", 16, lambda count: f"prove in base {', '.join(many('?x#: Sized', range(1, count + 1)))}", "prove 1: maybe")
     yield from line_pair("# bounds of a trait", 64, lambda count: f"trait Bounded: {repeated('Show', count, ' + ')}")
 
 

@@ -269,26 +269,32 @@ class Crates:
             written = re.sub(r"(?<=<)(u8|bool|char|i32|str|u64|usize|i128|S[0-9]+)(?=[,>])", self.variables[0], written, count=1)
         return written
 
+    def bounds_of(self, traits: Sequence[Item]) -> str:
+        """One reference, or several that share their variables."""
+        bounds = [self.bound_of(self.rng.choice(traits))]
+        while self.chance(0.2) and len(bounds) < 4:
+            bounds.append(self.bound_of(self.rng.choice(traits)))
+        return ", ".join(bounds)
+
     def add_query(self) -> None:
         rng = self.rng
         crate = rng.choice(self.crates)
         self.look(crate)
         variables = ["?x", "?y"] if rng.random() < 0.45 else []
         traits = [it for it in self.traits_seen if it.name != "Sized"] or self.traits_seen
-        trait = rng.choice(traits)
         if rng.random() < 0.35:
             self.scope(variables=variables)
-            self.lines.append(f"refute in {crate} {self.bound_of(trait)}")
+            self.lines.append(f"refute in {crate} {self.bounds_of(traits)}")
             return
         types = ["T", "U"][: rng.choice([0, 0, 0, 1, 2])]
         self.scope(types, variables=variables)
         params = within(types)
-        bound = self.bound_of(trait)
+        bounds = self.bounds_of(traits)
         clauses: Lines = []
         self.variables = []
         while types and rng.random() < 0.5 and len(clauses) < 3:
             clauses.append(f"{rng.choice(types) if rng.random() < 0.7 else self.type(1)}: {self.bound(rng.choice(traits), 1)}")
-        self.lines.append(f"prove in {crate} {params}{' ' if params else ''}{bound}{where(clauses)}")
+        self.lines.append(f"prove in {crate} {params}{' ' if params else ''}{bounds}{where(clauses)}")
 
     def add_section(self) -> None:
         """A later version of a crate, with impls as those of the crate itself."""
