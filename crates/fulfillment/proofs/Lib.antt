@@ -4,3 +4,5 @@ pub mod Noting
 pub mod Starting
 pub mod Selections
 pub mod Together
+pub mod Restoring
+pub mod OwnTables

@@ -42,7 +42,7 @@ use Rattle.fulfillment.proofs.Starting.{fewer-rounds, last-round, one-round-more
 use Rattle.fulfillment.proofs.Lists.{contains-map, zip-itself, zip-set, zip-further, zip-at, all-along, map-along, sum-along, sum-falls}
 
 -- ---- obligations that are kept
-kept-itself : (o : Obligation) → ObligationIsKept o o
+pub kept-itself : (o : Obligation) → ObligationIsKept o o
 kept-itself o = record { goal = refl; done = λ h. h; left = omega arith }
 
 kept-further : (o p q : Obligation) → ObligationIsKept o p → ObligationIsKept p q → ObligationIsKept o q

@@ -1,5 +1,6 @@
 -- Obligations: goals that were registered, and how they stand.
-use Rattle.std.specs.Prelude.{◌≡◌, ◌≤◌, ◌+◌, ◌-◌, ◌*◌, ◌⊎◌, ℕ, zero, suc, List, [], ◌∷◌, ◌++◌, length, map, sum_by, All, Any}
+use Rattle.std.specs.Prelude.{◌≡◌, ◌≤◌, ◌+◌, ◌-◌, ◌*◌, ◌⊎◌, ℕ, zero, suc, List, [], ◌∷◌, ◌++◌, length, map, sum_by, take, All, Any}
+use Rattle.std.specs.List.{AllZip}
 use Rattle.type_terms.specs.Promised.Handles.{Entry}
 use Rattle.infer_table.specs.Canonical.{GoalTrees}
 use Rattle.infer_table.specs.Goals.{GoalHeld, goal_trees}
@@ -14,6 +15,7 @@ use Rattle.fulfillment.specs.declared.obligation.Standing.{Standing}
 use Rattle.fulfillment.specs.declared.obligation.Standing.TheVariants.{Pending, Done, Refused}
 use Rattle.fulfillment.specs.declared.obligation.Step.{Step}
 use Rattle.fulfillment.specs.declared.obligation.Step.TheVariants as step
+use Rattle.fulfillment.specs.declared.obligation.Stood.{Stood}
 
 abbrev pub standing_of : Obligation → Standing
 standing_of o = o.standing
@@ -72,3 +74,15 @@ step_of Holds = step.Quiet
 step_of Narrows = step.Narrowed
 step_of (IsOpen cause) = step.Quiet
 step_of IsRefused = step.Refused
+
+-- ---- snapshots
+abbrev pub stood_of : Obligation → Stood
+stood_of o = record { standing = o.standing; left = o.left }
+
+-- the obligation, standing as it stood
+abbrev pub standing_as : Obligation → Stood → Obligation
+standing_as o s = record o { standing = s.standing; left = s.left }
+
+-- The first goals are the same. Others may have been registered behind them.
+abbrev pub HaveGrown : List Obligation → List Obligation → Type 0
+HaveGrown os ps = AllZip (λ (o p : Obligation). p.goal ≡ o.goal) os (take (length os) ps)

@@ -9,5 +9,5 @@ mod evaluating;
 mod obligation;
 mod selecting;
 
-pub use obligation::{Obligation, ObligationId, Standing};
-pub use selecting::{FulfillmentCtxt, Selected};
+pub use obligation::{Obligation, ObligationId, Standing, Stood};
+pub use selecting::{FulfillmentCtxt, ObligationsSnapshot, Selected};

@@ -5,7 +5,7 @@ ghost use Rattle.solver_graph.specs.Askings.{StartsFramesOfAsking};
 ghost use Rattle.solver_graph.specs.LeftTables.{IsLeftByAnswers};
 ghost use Rattle.solver_graph.specs.Settling.{IsAskable, HasAsked, GoalIsRefused, IsUnsettled};
 ghost use Rattle.solver_graph.specs.Shortages.{ContextFullAtLimit};
-ghost use Rattle.fulfillment.specs.Obligations.{ObligationIsSettled, noted, step_of};
+ghost use Rattle.fulfillment.specs.Obligations.{ObligationIsSettled, noted, standing_as, step_of};
 ghost use Rattle.fulfillment.specs.Selecting.{StandsAfter};
 
 use crate::evaluating::{Answer, evaluate_once};
@@ -43,6 +43,13 @@ pub struct Obligation {
     pub left: usize,
 }
 
+/// How an obligation stood at a snapshot.
+#[derive(Clone, Copy)]
+pub struct Stood {
+    pub standing: Standing,
+    pub left: usize,
+}
+
 /// What a selection of one obligation comes to.
 #[derive(Clone, Copy)]
 pub(crate) enum Step {
@@ -60,6 +67,14 @@ impl Obligation {
         ensures { IsTrue result ↔ (self.now.standing ≡ Standing.Done) }
     {
         matches!(self.standing, Standing::Done)
+    }
+
+    /// Makes it stand as it stood.
+    pub(crate) fn restore(&mut self, stood: Stood)
+        ensures { self.new ≡ standing_as self.old stood }
+    {
+        self.standing = stood.standing;
+        self.left = stood.left;
     }
 
     /// Notes what an evaluation came to.

@@ -1,14 +1,14 @@
 //! Obligations over one table, and their selection.
 
-ghost use Rattle.std.specs.Prelude.{◌≡◌, ◌<◌, ◌⊎◌, [], All, Any, length, slice_get, map, Ok, Some, IfOk, IfErr, OnErr};
+ghost use Rattle.std.specs.Prelude.{◌≡◌, ◌<◌, ◌⊎◌, List, [], All, Any, length, slice_get, map, Ok, Some, IfOk, IfErr, OnErr};
 ghost use Rattle.solver_graph.specs.Shortages.{ContextFullAtLimit};
-ghost use Rattle.fulfillment.specs.Obligations.{IsRegistered, SomeIsSpent, most_evaluations, standing_of, total_left};
+ghost use Rattle.fulfillment.specs.Obligations.{HaveGrown, IsRegistered, SomeIsSpent, most_evaluations, standing_of, stood_of, total_left};
 ghost use Rattle.fulfillment.specs.Selecting.{CanSelect, EndsInFixingNothing, FixesNothing, HasSelected};
 ghost use Rattle.fulfillment.specs.Selecting.{ObligationIsRefused, SomeStaysOpen, StartsFramesOfSelecting};
 ghost use Rattle.fulfillment.specs.declared.obligation.Obligation.{Obligation};
 ghost use Rattle.fulfillment.specs.declared.obligation.ObligationId.{ObligationId};
 
-use crate::obligation::{Obligation, ObligationId, Standing, Step};
+use crate::obligation::{Obligation, ObligationId, Standing, Step, Stood};
 use goal_evaluator::{MaybeCause, TypingMode};
 use goal_frames::GoalHandler;
 use infer_table::goal::Goal;
@@ -33,6 +33,12 @@ impl Drop for FulfillmentCtxt {
             limit: _,
         } = self;
     }
+}
+
+/// How the obligations of a context stood at some moment, in the order in which they were registered.
+#[derive(Drop)]
+pub struct ObligationsSnapshot {
+    pub stood: Vec<Stood>,
 }
 
 /// How a selection ends.
@@ -104,6 +110,34 @@ impl FulfillmentCtxt {
         ensures { slice_get (map standing_of self.now.obligations.items) id.index ≡ Some result }
     {
         self.obligations[id.index].standing
+    }
+
+    /// A snapshot of the obligations. Fails if memory is refused.
+    pub fn snapshot(&self, alloc: Global) -> Result<ObligationsSnapshot, AllocError>
+        ensures { IfOk result (λ s. s.stood.items ≡ map stood_of self.now.obligations.items) }
+    {
+        let mut stood = Vec::new(alloc);
+        'each: for obligation in &self.obligations {
+            stood.push(Stood {
+                standing: obligation.standing,
+                left: obligation.left,
+            })?;
+        }
+        Ok(ObligationsSnapshot { stood })
+    }
+
+    /// Restores the obligations that the context had at a snapshot. Since then goals must only have been registered and selected.
+    pub fn roll_back(&mut self, snapshot: &ObligationsSnapshot)
+        ensures restored { (before : List Obligation) → snapshot.now.stood.items ≡ map stood_of before → HaveGrown before self.old.obligations.items
+            → self.new.obligations.items ≡ before }
+        ensures limit { self.new.limit ≡ self.old.limit }
+    {
+        self.obligations.truncate(snapshot.stood.len());
+        'each: for index in 0..self.obligations.len() {
+            let stood = snapshot.stood[index];
+            let obligation = &mut self.obligations[index];
+            obligation.restore(stood);
+        }
     }
 
     /// How a selection ends in which nothing was refused: whether all obligations are done.

@@ -39,7 +39,7 @@ use Rattle.inference.specs.Inference.{Demand, equal, proved, DemandIsOver, IsFai
 use Rattle.inference.specs.Inferring.{CanInfer, GoalIsOver, HasOneMore, IsAskedFurther, IsOverVariables, ShowsSolutions, ValuesAreOver, all_variables, equations_of, no_variables}
 use Rattle.inference.specs.declared.context.Infer.{Infer}
 use Rattle.inference.proofs.Faithful.{all-kept, asked-equal, asked-nothing, goals-later, held-later, instance-agree, one-more, over-more, values-more}
-use Rattle.inference.proofs.OwnTables.{known-table}
+use Rattle.fulfillment.proofs.OwnTables.{known-table}
 use Rattle.inference.proofs.Owned.{arg-own, equated-own, in-trees, of-trees}
 use Rattle.overlap_check.proofs.Owning.{NoFewer}
 

@@ -35,13 +35,14 @@ use Rattle.fulfillment.specs.Obligations.{ObligationIsKept, ObligationsHeld, tre
 use Rattle.fulfillment.specs.Selecting.{AreClean, CanSelect, DoneAreProved, HasSelected, ObligationIsRefused}
 use Rattle.fulfillment.specs.declared.obligation.Obligation.{Obligation}
 use Rattle.fulfillment.specs.declared.obligation.ObligationId.{ObligationId}
+use Rattle.fulfillment.proofs.Selections.{kept-itself}
 use Rattle.fulfillment.proofs.Lists.{all-along, contains-map, zip-itself}
 use Rattle.overlap_check.proofs.Owning.{NoFewer}
 use Rattle.inference.specs.Inference.{AgreeOnOwn, Demand, equal, proved, DemandIsOver, HaveNoSolutionWith, IsFaithfulTo, IsSoughtAndProved, MeetsDemand, MeetsEquation, OwnVariables, SolvesDemands}
 use Rattle.inference.specs.Inferring.{CanInfer, GoalIsOver, HasOneMore, HasOwnAlone, IsAskedFurther, ValuesAreOver, with_own_variable}
 use Rattle.inference.specs.declared.context.Infer.{Infer}
 use Rattle.inference.proofs.KeptDemands.{fact-same, goes-on, left-own, less, none-refused}
-use Rattle.inference.proofs.OwnTables.{IsOwnInTrees}
+use Rattle.fulfillment.proofs.OwnTables.{IsOwnInTrees}
 use Rattle.inference.proofs.Owned.{IsOwnGoal, goal-own, in-trees, of-trees}
 
 -- ---- terms under assignments
@@ -69,9 +70,6 @@ over-more n m le g h = record { environment = (known-more n m le g.environment h
 pub values-more : (n m : Sort → ℕ) → NoFewer n m → (bs : List Binding) → ValuesAreOver n bs → ValuesAreOver m bs
 values-more n m le [] h = tt
 values-more n m le (b ∷ older) h = ((known-more n m le b.value h.0.0, h.0.1), values-more n m le older h.1)
-
-kept-itself : (o : Obligation) → ObligationIsKept o o
-kept-itself o = record { goal = refl; done = λ h. h; left = omega arith }
 
 pub all-kept : (os : List Obligation) → AllZip ObligationIsKept os os
 all-kept os = zip-itself ObligationIsKept kept-itself os

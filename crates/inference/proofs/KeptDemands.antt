@@ -21,7 +21,7 @@ use Rattle.solver_graph.specs.Roots.{fact_under}
 use Rattle.fulfillment.specs.Leaving.{GoalsLeave, itself, further, IsRefusedAmong}
 use Rattle.overlap_check.proofs.Owning.{NoFewer, own-more}
 use Rattle.inference.specs.Inference.{Demand, proved, OwnVariables, AgreeOnOwn, IsSoughtAndProved, MeetsDemand, SolvesDemands}
-use Rattle.inference.proofs.OwnTables.{IsOwnInTrees, Stays, answered-own, any, beyond, posed, valued}
+use Rattle.fulfillment.proofs.OwnTables.{IsOwnInTrees, Stays, answered-own, any, beyond, posed, valued}
 use Rattle.inference.proofs.Owned.{IsOwnGoal}
 
 -- ---- assignments

@@ -1,5 +1,4 @@
 pub mod Results
-pub mod OwnTables
 pub mod Owned
 pub mod KeptDemands
 pub mod Faithful

@@ -31,7 +31,7 @@ use Rattle.goal_evaluator.specs.Content.{trait_of}
 use Rattle.overlap_check.proofs.Owning.{AllOwn, AreOwn, IsTerm, own-clean, own-known, turns-own}
 use Rattle.overlap_check.proofs.Posed.{made}
 use Rattle.inference.specs.Inferring.{GoalIsOver, IsOverVariables, ValuesAreOver}
-use Rattle.inference.proofs.OwnTables.{AreBelow, Below, IsOwnInTrees, Stays, any, below-keeps, opens}
+use Rattle.fulfillment.proofs.OwnTables.{AreBelow, Below, IsOwnInTrees, Stays, any, below-keeps, opens}
 
 -- ---- terms
 pub own : (n : Sort → ℕ) (t : Trees) → AreKnown n t → HasNoCanonical t → AreOwn n t

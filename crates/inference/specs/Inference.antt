@@ -35,7 +35,7 @@ AgreeOnOwn own s r = (k : Sort) (v : ℕ) → own k v ≡ true → r k v ≡ s k
 
 module _ {Handler : Type 0} (handler : HandlerMeaning Handler) (mode : TypingMode) (w : handler.goals.World) where
   -- In one of the worlds in which the handler looks for solutions, this trait reference has a proof, whichever goal it is an instance of. The
-  -- solver has such worlds for goals without where-clauses and placeholders alone: of other goals it promises no more than what is done.
+  -- solver has such worlds for goals without where-clauses and placeholders alone. While a context has other goals, `covers` says nothing.
   abbrev pub IsSoughtAndProved : Fact → Type 0
   IsSoughtAndProved f =
       (g : GoalTrees) (s : Assignment) → IsSorted s → IsWithoutCanonical g → IsProper g.environment → IsProper g.predicate → fact_under s g ≡ f

@@ -1,9 +1,9 @@
 -- Inference contexts between two calls: what each call needs and leaves.
-use Rattle.std.specs.Prelude.{◌≡◌, ℕ, ◌||◌, ltb, true, false, List, [], ◌∷◌, ◌++◌, All}
+use Rattle.std.specs.Prelude.{◌≡◌, ℕ, ◌||◌, ltb, true, false, List, [], ◌∷◌, ◌++◌, map, All}
 use Rattle.type_terms.specs.Promised.Label.{Sort, infer}
 use Rattle.type_terms.specs.Promised.Trees.{Trees, none, tree, leaf}
 use Rattle.infer_table.specs.Canonical.{GoalTrees, HasNoCanonical}
-use Rattle.infer_table.specs.Content.{content, variables_of}
+use Rattle.infer_table.specs.Content.{Grows, content, place_in, variables_of}
 use Rattle.infer_table.specs.Covers.{AreKnown}
 use Rattle.infer_table.specs.Goals.{goal_trees}
 use Rattle.infer_table.specs.Solutions.{Assignment, Binding, Solves, instance, is_same_variable}
@@ -13,10 +13,12 @@ use Rattle.solver_graph.specs.Contexts.{entries_of}
 use Rattle.solver_graph.specs.RootEvaluations.{KnownResults}
 use Rattle.solver_graph.specs.Searching.{world_in}
 use Rattle.solver_graph.specs.declared.context.SolverCx.{SolverCx}
+use Rattle.fulfillment.specs.Obligations.{HaveGrown, stood_of}
 use Rattle.fulfillment.specs.Selecting.{CanSelect}
 use Rattle.fulfillment.specs.declared.obligation.Obligation.{Obligation}
 use Rattle.inference.specs.Inference.{Demand, equal, OwnVariables, SolvesDemands, IsFaithfulTo}
 use Rattle.inference.specs.declared.context.Infer.{Infer}
+use Rattle.inference.specs.declared.context.Snapshot.{Snapshot}
 
 -- ---- variables
 -- no canonical variable occurs in the term, and the number of each variable is below the count of its kind
@@ -57,7 +59,19 @@ equations_of (b ∷ older) = equal (leaf (infer b.sort b.var)) b.value ∷ equat
 abbrev pub HasSolution : List Binding → Trees → Trees → Type 0
 HasSolution bs a b = (s : Assignment) × Solves s bs × (instance s a ≡ instance s b)
 
--- ---- as before
+-- ---- snapshots
+-- The second context has what the first has. Variables, values and constraints may have been added, and goals registered and selected.
+pub record HasGrownFrom (i j : Infer) : Type 0 where
+  pub table : Grows i.table j.table
+  pub goals : HaveGrown i.goals.obligations.items j.goals.obligations.items
+  pub mode : j.mode ≡ i.mode
+  pub limit : j.goals.limit ≡ i.goals.limit
+
+-- the snapshot of a context
+pub record IsSnapshotOf (i : Infer) (s : Snapshot) : Type 0 where
+  pub table : s.table ≡ place_in i.table
+  pub goals : s.goals.stood.items ≡ map stood_of i.goals.obligations.items
+
 -- The second context is as the first: its variables and their values, its obligations and how they stand.
 pub record IsAsBefore (i j : Infer) : Type 0 where
   pub table : j.table ≡ i.table

@@ -6,7 +6,7 @@ ghost use Rattle.type_terms.specs.Promised.Handles.{ArgHeld, Is, Keeps, types, c
 ghost use Rattle.type_terms.specs.Promised.Label.{of_type, of_const, infer};
 ghost use Rattle.type_terms.specs.Promised.Trees.{leaf};
 ghost use Rattle.type_terms.specs.Growth.{FullAtLimit};
-ghost use Rattle.infer_table.specs.Content.{Grows, content, variables_of};
+ghost use Rattle.infer_table.specs.Content.{content, variables_of};
 ghost use Rattle.infer_table.specs.Equated.{MakesEqual};
 ghost use Rattle.infer_table.specs.Goals.{GoalHeld, goal_trees};
 ghost use Rattle.infer_table.specs.Shortages.{EqFullAtLimit};
@@ -19,20 +19,24 @@ ghost use Rattle.fulfillment.specs.Obligations.{IsRegistered, SomeIsSpent, stand
 ghost use Rattle.fulfillment.specs.Selecting.{HasSelected, SomeStaysOpen};
 ghost use Rattle.fulfillment.specs.declared.obligation.Obligation.{Obligation};
 ghost use Rattle.fulfillment.specs.declared.obligation.ObligationId.{ObligationId};
+ghost use Rattle.inference.specs.declared.context.Infer.{Infer};
 ghost use Rattle.inference.specs.Inference.{equal, proved, HaveNoSolutionWith, IsFaithfulTo};
 ghost use Rattle.inference.specs.Inferring.{CanInfer, GoalIsOver, HasOneMore, IsAskedFurther, IsOverVariables, ShowsSolutions, no_variables};
-ghost use Rattle.inference.specs.Inferring.{HasSolution, IsAsBefore};
+ghost use Rattle.inference.specs.Inferring.{HasGrownFrom, HasSolution, IsAsBefore, IsSnapshotOf};
 
 use crate::laws::{resting_laws, restoring_laws};
-use fulfillment::{FulfillmentCtxt, Obligation, ObligationId, Selected, Standing};
+use fulfillment::{
+    FulfillmentCtxt, Obligation, ObligationId, ObligationsSnapshot, Selected, Standing,
+};
 use goal_evaluator::TypingMode;
 use goal_frames::GoalHandler;
 use infer_table::certainty::EqError;
 use infer_table::goal::Goal;
 use infer_table::infer_ctxt::InferCtxt;
 use infer_table::laws::solution_laws;
+use infer_table::terms::Snapshot as TableSnapshot;
 use solver_graph::{Search, context_laws};
-use std::alloc::AllocError;
+use std::alloc::{AllocError, Global};
 use type_terms::Fault;
 use type_terms::kinds::{Const, GenericArgKind, Ty};
 
@@ -61,6 +65,13 @@ impl Drop for Infer {
             mode: _,
         } = self;
     }
+}
+
+/// A snapshot of a context: of its table, and of how its obligations stand.
+#[derive(Drop)]
+pub struct Snapshot {
+    table: TableSnapshot,
+    goals: ObligationsSnapshot,
 }
 
 /// Whether an equation has a solution.
@@ -110,6 +121,7 @@ impl Infer {
         ensures advances { Advances H.meaning.IsReady search.old.cx search.new.cx }
         ensures is { IfOk result (λ t. Is search.new.cx.interner.entries types t.0 (leaf (infer of_type self.old.table.ty_vars))) }
         ensures faithful { OnOk result (HasOneMore H.meaning of_type self.old.table.ty_vars search.old.cx self.old search.new.cx self.new) }
+        ensures grows { HasGrownFrom self.old self.new }
         ensures goals { self.new.goals ≡ self.old.goals }
         ensures mode { self.new.mode ≡ self.old.mode }
         ensures as_it_was { OnErr result (self.new ≡ self.old) }
@@ -130,6 +142,7 @@ impl Infer {
         ensures advances { Advances H.meaning.IsReady search.old.cx search.new.cx }
         ensures is { IfOk result (λ t. Is search.new.cx.interner.entries consts t.0 (leaf (infer of_const self.old.table.const_vars))) }
         ensures faithful { OnOk result (HasOneMore H.meaning of_const self.old.table.const_vars search.old.cx self.old search.new.cx self.new) }
+        ensures grows { HasGrownFrom self.old self.new }
         ensures goals { self.new.goals ≡ self.old.goals }
         ensures mode { self.new.mode ≡ self.old.mode }
         ensures as_it_was { OnErr result (self.new ≡ self.old) }
@@ -163,11 +176,11 @@ impl Infer {
         ensures advances { Advances H.meaning.IsReady search.old.cx search.new.cx }
         ensures faithful { OnOk result (let es = search.old.cx.interner.entries in
             IsAskedFurther H.meaning (equal (arg_trees es left) (arg_trees es right) ∷ []) search.old.cx self.old search.new.cx self.new) }
-        ensures grows { Grows self.old.table self.new.table }
         ensures equates { OnOk result (let es = search.old.cx.interner.entries in
             MakesEqual es self.old.table search.new.cx.interner.entries self.new.table (arg_trees es left) (arg_trees es right)) }
         ensures no_solution { result ≡ Err EqError.NoSolution → let es = search.old.cx.interner.entries in
             HaveNoSolutionWith H.meaning (equal (arg_trees es left) (arg_trees es right) ∷ []) search.old.cx self.old }
+        ensures grows { HasGrownFrom self.old self.new }
         ensures goals { self.new.goals ≡ self.old.goals }
         ensures mode { self.new.mode ≡ self.old.mode }
         ensures as_it_was { OnErr result (self.new ≡ self.old) }
@@ -235,6 +248,7 @@ impl Infer {
         ensures registered { IfOk result (λ id. IsRegistered self.old.goals.obligations.items self.old.goals.limit goal id self.new.goals.obligations.items) }
         ensures faithful { OnOk result (IsAskedFurther H.meaning (proved (goal_trees search.now.cx.interner.entries goal) ∷ [])
             search.now.cx self.old search.now.cx self.new) }
+        ensures grows { HasGrownFrom self.old self.new }
         ensures table { self.new.table ≡ self.old.table }
         ensures mode { self.new.mode ≡ self.old.mode }
         ensures limit { self.new.goals.limit ≡ self.old.goals.limit }
@@ -262,6 +276,7 @@ impl Infer {
         ensures again { CanInfer H.meaning search.new.graph search.new.cache search.new.cx self.new }
         ensures keeps { Keeps search.old.cx.interner.entries search.new.cx.interner.entries }
         ensures faithful { IsAskedFurther H.meaning [] search.old.cx self.old search.new.cx self.new }
+        ensures grows { HasGrownFrom self.old self.new }
         ensures selected { HasSelected H.meaning self.old.mode search.old.graph search.old.cache search.old.cx self.old.table
             self.old.goals.obligations.items search.new.graph search.new.cache search.new.cx self.new.table self.new.goals.obligations.items }
         ensures all_done { result ≡ Ok Selected.AllDone → All (λ (o : Obligation). o.standing ≡ Standing.Done) self.new.goals.obligations.items }
@@ -318,5 +333,30 @@ impl Infer {
         let resolved = self.table.eager_resolve_vars(&mut search.cx.interner, term);
         search.cx.interner.lawful();
         resolved
+    }
+    /// A snapshot of the context, to which it can be rolled back. Fails if memory is refused.
+    ///
+    /// rustc: `InferCtxt::start_snapshot`. rust-analyzer: `InferenceTable::snapshot`.
+    pub fn snapshot(&self, alloc: Global) -> Result<Snapshot, AllocError>
+        ensures { IfOk result (IsSnapshotOf self.now) }
+    {
+        let goals = self.goals.snapshot(alloc)?;
+        Ok(Snapshot {
+            table: self.table.snapshot(),
+            goals,
+        })
+    }
+
+    /// Restores the context as it was at a snapshot: its variables and their values, and its obligations, in number and in how they stand.
+    ///
+    /// Since then it must only have been used by the calls here. Terms that were made and what the search found stay.
+    ///
+    /// rustc: `InferCtxt::rollback_to`. rust-analyzer: `InferenceTable::rollback_to`.
+    pub fn rollback_to(&mut self, snapshot: Snapshot)
+        ensures { (before : Infer) → IsSnapshotOf before snapshot → HasGrownFrom before self.old → IsAsBefore before self.new }
+    {
+        let Snapshot { table, goals } = snapshot;
+        self.table.roll_back(table);
+        self.goals.roll_back(&goals);
     }
 }

@@ -8,7 +8,7 @@ ghost use Rattle.solver_graph.specs.Contexts.{IsReady};
 ghost use Rattle.solver_graph.specs.Searching.{solver_meaning};
 ghost use Rattle.inference.specs.Inference.{Demand, OwnVariables, IsFaithfulTo};
 ghost use Rattle.inference.specs.declared.context.Infer.{Infer};
-ghost use Rattle.inference.specs.Inferring.{CanInfer, IsAsBefore, IsAskedFurther, all_variables, equations_of};
+ghost use Rattle.inference.specs.Inferring.{CanInfer, HasGrownFrom, IsAsBefore, IsAskedFurther, all_variables, equations_of};
 
 use goal_frames::GoalHandler;
 
@@ -28,6 +28,12 @@ pub fn resting_laws<H: GoalHandler>()
         → g.current_depth ≡ 0 → AreJustified (solver_meaning H.meaning) d ls → IsReady H.meaning.IsReady d → CanInfer H.meaning g ls d i }
     ensures faithful { (f : _) (ks : _) (c d : _) (i : _) → CanInfer H.meaning f ks c i → Keeps c.interner.entries d.interner.entries
         → H.meaning.world d.handler d.interner.entries ≡ H.meaning.world c.handler c.interner.entries → IsAskedFurther H.meaning [] c i d i }
+{}
+
+/// Each call of a context lets it grow, so calls one after the other do. What `rollback_to` needs of them is that.
+pub fn growing_laws()
+    ensures itself { (i : Infer) → HasGrownFrom i i }
+    ensures further { (i j k : Infer) → HasGrownFrom i j → HasGrownFrom j k → HasGrownFrom i k }
 {}
 
 /// A context that is as it was can be used as it could, and is faithful to what it was faithful to.

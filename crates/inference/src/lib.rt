@@ -8,5 +8,5 @@
 mod context;
 mod laws;
 
-pub use context::Infer;
-pub use laws::{adopting_laws, resting_laws, restoring_laws};
+pub use context::{Infer, Snapshot};
+pub use laws::{adopting_laws, growing_laws, resting_laws, restoring_laws};

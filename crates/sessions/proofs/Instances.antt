@@ -20,7 +20,7 @@ use Rattle.sessions.specs.Values.{unknowns_from}
 use Rattle.sessions.proofs.CoveringValues.{all-proper, as-many, given-read, IsOwnUnknown, kinds_of, unknowns-own}
 use Rattle.sessions.proofs.Filling.{filled-is, values-fit-kinds}
 use Rattle.sessions.proofs.Given.{given, given-sorted}
-use Rattle.sessions.proofs.OwnTables.{any, IsOwnInTrees, first-own, instance-own, valued}
+use Rattle.fulfillment.proofs.OwnTables.{any, IsOwnInTrees, first-own, instance-own, valued}
 
 -- with terms for the variables that the first leave open they are the second
 abbrev pub AreInstances : List Trees → List Trees → Type 0

@@ -31,7 +31,7 @@ use Rattle.sessions.proofs.Alone.{same-goal}
 use Rattle.sessions.proofs.CoveringValues.{all-proper, closed-places, given-read}
 use Rattle.sessions.proofs.Given.{given, given-sorted}
 use Rattle.sessions.proofs.Instances.{AreInstances, asked-known, first_table, instances}
-use Rattle.sessions.proofs.OwnTables.{any, IsOwnInTrees, answered-own, beyond, first-own, instance-own, posed, valued}
+use Rattle.fulfillment.proofs.OwnTables.{any, IsOwnInTrees, answered-own, beyond, first-own, instance-own, posed, valued}
 use Rattle.sessions.proofs.Unsolved.{is_place}
 
 -- ---- members of a list

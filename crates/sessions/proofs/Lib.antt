@@ -72,7 +72,6 @@ pub mod RightAnswers
 pub mod ProvedQuestions
 mod BareAnswers
 mod SizedAlone
-mod OwnTables
 mod CoveringValues
 mod Instances
 mod KeptSolutions

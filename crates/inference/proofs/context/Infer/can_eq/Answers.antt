@@ -8,7 +8,7 @@ pub returns-clause-as_before : goal.returns-clause-as_before
 returns-clause-as_before g c =
     let made = c.eq-made in
     record {
-      table = c.roll_back.ensures c.args.self.now.table c.snapshot-place.ensures made.ensures.grows;
+      table = c.roll_back.ensures c.args.self.now.table c.snapshot-place.ensures made.ensures.grows.table;
       goals = ap (λ (x : FulfillmentCtxt). x.obligations.items) made.ensures.goals;
       mode = made.ensures.mode;
       limit = ap (λ (x : FulfillmentCtxt). x.limit) made.ensures.goals;

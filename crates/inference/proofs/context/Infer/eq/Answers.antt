@@ -4,6 +4,7 @@ use Rattle.infer_table.specs.Content.{Table}
 use Rattle.solver_graph.specs.declared.context.SolverCx.{SolverCx}
 use Rattle.inference.proofs.Calls.{can-equal, can-same, faithful-equal}
 use Rattle.inference.proofs.Faithful.{never-equal}
+use Rattle.inference.proofs.Growing.{grown-itself}
 use Rattle.inference.proofs.Results.{either, on-err, on-ok}
 use Rattle.inference.proofs.context.Infer.eq.Goals as goal
 
@@ -55,3 +56,6 @@ pub returns-clause-no_solution : goal.returns-clause-no_solution
 returns-clause-no_solution g c = λ e.
     let es = c.args.search.now.cx.interner.entries in
     never-equal g.H.GoalHandler.meaning c.args.search.now.cx c.args.self.now (arg_trees es c.args.left) (arg_trees es c.args.right) (c.eq-made.ensures.never e)
+
+pub returns-clause-grows : goal.returns-clause-grows
+returns-clause-grows g c = record { table = c.eq-made.ensures.grows; goals = grown-itself c.args.self.now.goals.obligations.items; mode = refl; limit = refl }

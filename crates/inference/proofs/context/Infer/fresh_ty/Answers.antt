@@ -5,6 +5,7 @@ use Rattle.infer_table.specs.Content.{Table}
 use Rattle.solver_graph.specs.declared.context.SolverCx.{SolverCx}
 use Rattle.inference.specs.Inferring.{HasOneMore}
 use Rattle.inference.proofs.Calls.{can-same, faithful-fresh}
+use Rattle.inference.proofs.Growing.{grown-itself}
 use Rattle.inference.proofs.Results.{either, full-at-limit, on-err, on-ok}
 use Rattle.inference.proofs.context.Infer.fresh_ty.Goals as goal
 
@@ -48,3 +49,6 @@ pub returns-clause-full : goal.returns-clause-full
 returns-clause-full g c =
     let made = c.next_ty_var-made in
     full-at-limit made.result c.args.search.now.cx.interner made.new.cx types (omega arith) made.ensures.full made.ensures.nothing_made made.ensures.grew.limit
+
+pub returns-clause-grows : goal.returns-clause-grows
+returns-clause-grows g c = record { table = c.next_ty_var-made.ensures.grows; goals = grown-itself c.args.self.now.goals.obligations.items; mode = refl; limit = refl }

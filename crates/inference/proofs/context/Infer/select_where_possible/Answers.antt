@@ -1,6 +1,7 @@
 use Rattle.std.proofs.Common.{refl}
 use Rattle.inference.specs.declared.context.Infer.{Infer}
 use Rattle.inference.proofs.Faithful.{can-after, faithful-after, never-proved}
+use Rattle.inference.proofs.Growing.{grown-kept}
 use Rattle.inference.proofs.context.Infer.select_where_possible.Goals as goal
 
 pub returns-clause-again : goal.returns-clause-again
@@ -25,3 +26,8 @@ returns-clause-faithful g c =
 pub returns-clause-refused : goal.returns-clause-refused
 returns-clause-refused g c = λ id e.
     never-proved g.H.GoalHandler.meaning c.args.search.now.graph c.args.search.now.cache c.args.search.now.cx c.args.self.now c.requires id (c.select_where_possible.ensures.refused id e)
+
+pub returns-clause-grows : goal.returns-clause-grows
+returns-clause-grows g c =
+    let call = c.select_where_possible in
+    record { table = call.ensures.selected.asked.grows; goals = grown-kept c.args.self.now.goals.obligations.items call.new.self.obligations.items call.ensures.selected.kept; mode = refl; limit = call.ensures.limit }
