@@ -33,7 +33,7 @@ use Rattle.coherence.specs.Promised.CrateAnswers.{crate_text, number_in_crate}
 use Rattle.coherence.specs.Lines.{IsCheckLine, of_version, of_headers, IsQuestionLine, of_prove, of_refute}
 use Rattle.coherence.specs.Promised.ProvedAnswers.{QuestionAnswer, says_proved, says_refuted}
 use Rattle.coherence.proofs.AskedHeaders.{supers-are-asked}
-use Rattle.coherence.proofs.ImplPlaces.{HaveNumbers, impls-have-numbers}
+use Rattle.sessions.proofs.KeptTexts.{texts-are-kept}
 use Rattle.sessions.proofs.GivenTexts.{text-given}
 
 -- ---- texts
@@ -55,8 +55,8 @@ module _ (d : Declarations) (text : IsOfText d) (c : ℕ) where
   abbrev U : World
   U = view_in d c
 
-  places : HaveNumbers d.impls
-  places = impls-have-numbers text.0 d (text-given d text)
+  places : (k : ℕ) (x : NamedImpl) → slice_get d.impls k ≡ Some x → x.item.name ≡ k
+  places = (texts-are-kept text.0 d (text-given d text)).kept.impl_numbers
 
   at-number : (x : ImplDecl) → In x (view_of (world_of d) c).impls → (n : NamedImpl) × (slice_get d.impls x.name ≡ Some n) × (n.item ≡ x)
   at-number x i =

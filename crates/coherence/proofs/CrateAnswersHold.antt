@@ -27,13 +27,13 @@ use Rattle.coherence.proofs.HeaderNames.{KnowsParams, AllOk}
 use Rattle.sessions.proofs.TextLowering.Texts.{texts-are-well}
 use Rattle.sessions.proofs.TypeTerms.NoHolds.{member-each}
 use Rattle.coherence.proofs.ImplParams.{unmapped, knows, header-ok}
-use Rattle.coherence.proofs.ImplPlaces.{HaveNumbers, impls-have-numbers}
+use Rattle.sessions.proofs.KeptTexts.{texts-are-kept}
 use Rattle.coherence.proofs.OrphanReasons.{params_at, error_text, reason-is}
 use Rattle.sessions.proofs.TextLanguage.SameTexts.{text-gives}
 
 -- ---- an impl that a crate sees, in the text
-numbered : (d : Declarations) → IsOfText d → HaveNumbers d.impls
-numbered d (bytes, t) = impls-have-numbers bytes d (text-gives bytes (Ok d) t)
+numbered : (d : Declarations) → IsOfText d → (k : ℕ) (x : NamedImpl) → slice_get d.impls k ≡ Some x → x.item.name ≡ k
+numbered d (bytes, t) = (texts-are-kept bytes d (text-gives bytes (Ok d) t)).kept.impl_numbers
 
 -- as it stands there without its lifetimes
 pub erased : (d : Declarations) (c : ℕ) (i : ImplDecl) → IsOfText d → In i (view_in d c).impls → (n : NamedImpl) × (slice_get d.impls i.name ≡ Some n) × (erased_impl n.item ≡ i)

@@ -17,7 +17,6 @@ pub mod HeaderNames
 pub mod OpenedTypes
 pub mod ImplTypeTexts
 pub mod OrphanReasons
-pub mod ImplPlaces
 pub mod ImplParams
 pub mod CrateAnswersHold
 pub mod SupersInTurn

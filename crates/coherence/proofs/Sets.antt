@@ -21,10 +21,3 @@ snoc-get [] y zero x h = inr (same_Some y x h)
 snoc-get [] y (suc k) x h = absurd cc
 snoc-get (z ∷ xs) y zero x h = inl h
 snoc-get (z ∷ xs) y (suc k) x h = snoc-get xs y k x h
-
--- ... behind all others
-pub snoc-at : {A : Type 0} (xs : List A) (y : A) (k : ℕ) (x : A) → slice_get (xs ++ y ∷ []) k ≡ Some x → (slice_get xs k ≡ Some x) ⊎ ((k ≡ length xs) × (y ≡ x))
-snoc-at [] y zero x h = inr (refl, same_Some y x h)
-snoc-at [] y (suc k) x h = absurd cc
-snoc-at (z ∷ xs) y zero x h = inl h
-snoc-at (z ∷ xs) y (suc k) x h = elim (snoc-at xs y k x h) [ inl e ↦ inl e | inr (e, s) ↦ inr (ap suc e, s) ]

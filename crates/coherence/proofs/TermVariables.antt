@@ -1,18 +1,16 @@
 -- The variables of a question stand for types and constants.
-use Rattle.std.proofs.Common.{◌≡◌, refl, subst, ℕ, zero, suc, Bool, true, false, List, [], ◌∷◌, ◌++◌, ◌-◌, length, if◌then◌else◌, map, Option, Some, None, Result, Ok, Err}
+use Rattle.std.proofs.Common.{◌≡◌, ℕ, Bool, true, false, List, [], ◌∷◌, ◌++◌, map, Option, Some, None, Ok, refl}
 use Rattle.std.specs.Prelude.{slice_get, filter}
 use Rattle.std.specs.List.{flat_map}
-use Rattle.std.proofs.lemmas.Option.{same_Some}
 use Rattle.sessions.specs.TypeTerms.Promised.Label.{Sort, of_type, of_const, of_lifetime}
-use Rattle.sessions.specs.TextLanguage.Promised.Syntax.{TypeTree, of_primitive, never_type, variable_type, named, reference_to, pointer_to, slice_of, array_of, tuple_of, fn_of, fn_to, dyn_of, Types, no_types, and_type, Args, no_args, and_arg, Arg, lifetime_arg, number_arg, type_arg, Item, bound_item, lifetime_item, DynBounds, no_items, and_item, Length, number_length, name_length, variable_length, Bound, Clause, Line, crate_line, struct_line, trait_line, impl_line, prove_line, refute_line, later_line, supers_line}
-use Rattle.sessions.specs.TextLanguage.Promised.Declarations.{Declarations, NamedImpl, Question, Variable, known}
-use Rattle.sessions.specs.TextLanguage.Declarations.{nothing_declared}
+use Rattle.sessions.specs.TextLanguage.Promised.Syntax.{TypeTree, of_primitive, never_type, variable_type, named, reference_to, pointer_to, slice_of, array_of, tuple_of, fn_of, fn_to, dyn_of, Types, no_types, and_type, Args, no_args, and_arg, Arg, lifetime_arg, number_arg, type_arg, Item, bound_item, lifetime_item, DynBounds, no_items, and_item, Length, number_length, name_length, variable_length, Bound, Clause, Line, prove_line, refute_line}
+use Rattle.sessions.specs.TextLanguage.Promised.Declarations.{Declarations, Question, Variable, known}
 use Rattle.sessions.specs.TextLanguage.Uses.{Use, variable_use, misfit_use, kinds_of_struct, kinds_of_trait, next_kind, other_kinds, length_uses, lifetime_uses, binder_uses, type_uses, types_uses, args_uses, arg_uses, item_uses, items_uses, bound_uses, clause_uses}
-use Rattle.sessions.specs.TextLanguage.Faults.{fault_of, variables_in, once}
-use Rattle.sessions.specs.TextLanguage.Adding.{added, impl_of, item_meanings}
-use Rattle.sessions.specs.TextLanguage.Text.{LineGives, other_byte, blank, unwritten, faulty, adds, LinesGive, ends, fails, goes_on, TextGives, too_long, fits}
+use Rattle.sessions.specs.TextLanguage.Faults.{variables_in, once}
+use Rattle.sessions.specs.TextLanguage.Text.{TextGives}
 use Rattle.sessions.specs.TextLines.Faultless.{UsesFit}
 use Rattle.sessions.proofs.TextLines.FittingUses.{faultless-uses}
+use Rattle.sessions.proofs.TextLowering.EachLine.{question-keeps}
 
 abbrev pub IsTerm : Sort → Type 0
 IsTerm of_type = Unit {0}
@@ -166,58 +164,8 @@ of-clauses : (d : Declarations) (ks : List Clause) → AllFit (flat_map (clause_
 of-clauses d ks h = as-variables _ (each-once _ (found (flat_map (clause_uses d) ks) (clauses-fine d ks h)))
 
 -- ---- questions
-abbrev AllAsk : List Question → Type 0
-AllAsk [] = Unit {0}
-AllAsk (q ∷ qs) = AreTermVariables q.variables × AllAsk qs
-
-more : (qs : List Question) (q : Question) → AllAsk qs → AreTermVariables q.variables → AllAsk (qs ++ q ∷ [])
-more [] q h v = (v, tt)
-more (x ∷ qs) q h v = (h.0, more qs q h.1 v)
-
-line-asks : (d : Declarations) (l : Line) → fault_of d l ≡ None → AllAsk d.questions → AllAsk (added d l).questions
-line-asks d (crate_line n us) f h = h
-line-asks d (struct_line g n ps fs) f h = h
-line-asks d (trait_line g b n ps bs) f h = h
-line-asks d (impl_line ps k ks) f h = by d.in_section
-  where
-    x : NamedImpl
-    x = impl_of d (item_meanings d (impl_line ps k ks) 0) ps k ks
-
-    by : (b : Bool) → AllAsk (if b then record d { later_impls = d.later_impls ++ record { section = length d.sections - 1; added = x } ∷ [] } else record d { impls = d.impls ++ x ∷ [] }).questions
-    by true = h
-    by false = h
-line-asks d (later_line n) f h = h
-line-asks d (supers_line n) f h = h
-line-asks d (prove_line c ps a bs ks) f h =
-    let l = prove_line c ps a bs ks in
-    more d.questions _ h (of-clauses d (a ∷ bs) (all-left (flat_map (clause_uses d) (a ∷ bs)) (flat_map (clause_uses d) ks) (fit-all d l _ (faultless-uses d l f).1)))
-line-asks d (refute_line c ps a bs) f h = let l = refute_line c ps a bs in more d.questions _ h (of-clauses d (a ∷ bs) (fit-all d l _ (faultless-uses d l f).1))
-
--- ---- texts
-abbrev AskIfTaken : {E : Type 0} → Result Declarations E → Type 0
-AskIfTaken (Ok d) = AllAsk d.questions
-AskIfTaken (Err e) = Unit {0}
-
-one-line : (d : Declarations) (text : List ℕ) (r : Result Declarations ℕ) → LineGives d text r → AllAsk d.questions → AskIfTaken r
-one-line d text _ (other_byte a) h = tt
-one-line d text _ (blank a b) h = h
-one-line d text _ (unwritten a b u) h = tt
-one-line d text _ (faulty l n a b w f) h = tt
-one-line d text _ (adds l a b w f) h = line-asks d l f h
-
-all-lines : (d : Declarations) (k : ℕ) (ls : List (List ℕ)) (r : Result Declarations (ℕ × ℕ)) → LinesGive d k ls r → AllAsk d.questions → AskIfTaken r
-all-lines d k ls r (ends _ _) h = h
-all-lines d k ls r (fails _ _ l rest n g) h = tt
-all-lines d k ls r (goes_on _ e _ l rest _ g after) h = all-lines e (suc k) rest r after (one-line d l (Ok e) g h)
-
-whole-text : (bytes : List ℕ) (r : Result Declarations (ℕ × ℕ)) → TextGives bytes r → AskIfTaken r
-whole-text bytes _ (too_long h) = tt
-whole-text bytes r (fits _ h p) = all-lines nothing_declared 1 _ r p tt
-
-at-place : (qs : List Question) → AllAsk qs → (k : ℕ) (q : Question) → slice_get qs k ≡ Some q → AreTermVariables q.variables
-at-place [] h k q e = absurd cc
-at-place (x ∷ qs) h zero q e = subst (λ (y : Question). AreTermVariables y.variables) (same_Some x q e) h.0
-at-place (x ∷ qs) h (suc k) q e = at-place qs h.1 k q e
-
 pub term-variables : (bytes : List ℕ) (d : Declarations) → TextGives bytes (Ok d) → (k : ℕ) (q : Question) → slice_get d.questions k ≡ Some q → AreTermVariables q.variables
-term-variables bytes d t k q e = at-place d.questions (whole-text bytes (Ok d) t) k q e
+term-variables bytes d t k q at =
+    question-keeps (λ (x : Question). AreTermVariables x.variables) (λ e c ps a bs ks w f.
+    of-clauses e (a ∷ bs) (all-left (flat_map (clause_uses e) (a ∷ bs)) (flat_map (clause_uses e) ks) (fit-all e (prove_line c ps a bs ks) _ (faultless-uses e (prove_line c ps a bs ks) f).1)))
+    (λ e c ps a bs w f. of-clauses e (a ∷ bs) (fit-all e (refute_line c ps a bs) _ (faultless-uses e (refute_line c ps a bs) f).1)) bytes d t k q at

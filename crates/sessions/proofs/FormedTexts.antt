@@ -1,5 +1,5 @@
 -- What a text without a fault declares is formed: its terms name what is declared and seen, with the arguments that it takes.
-use Rattle.std.proofs.Common.{◌≡◌, ◌<◌, ◌≤◌, ◌-◌, ℕ, zero, suc, Bool, true, false, ◌&&◌, List, [], ◌∷◌, ◌++◌, map, length, Option, Some, None, Result, Ok, Err, refl, sym, ap, ◌∙◌, subst, arith, inl, inr}
+use Rattle.std.proofs.Common.{◌≡◌, ◌<◌, ◌≤◌, ◌-◌, ℕ, zero, suc, Bool, true, false, ◌&&◌, List, [], ◌∷◌, ◌++◌, map, length, Option, Some, None, Ok, refl, sym, ap, ◌∙◌, subst, arith, inl, inr}
 use Rattle.std.proofs.lemmas.List.Folds.{list_all-append}
 use Rattle.std.proofs.lemmas.Option.{same_Some, slice_get_within}
 use Rattle.std.specs.Prelude.{slice_get, find, if◌then◌else◌, option_and_then}
@@ -21,13 +21,14 @@ use Rattle.text_language.specs.Faults.{fault_of, belongs_to_crate, is_impl, is_h
 use Rattle.text_language.specs.Promised.Faults.{with_own, own_struct, own_trait}
 use Rattle.text_language.specs.Lowering.{crate_number, trait_number, field_trees, type_tree, args_trees, bound_with_self, clause_reference, Meanings}
 use Rattle.text_language.specs.Adding.{added, item_meanings, crate_of, struct_of, trait_of, impl_of, question_of, question_meanings}
-use Rattle.text_language.specs.Written.{IsWritten}
-use Rattle.text_language.specs.Text.{LineGives, other_byte, blank, unwritten, faulty, adds, LinesGive, ends, fails, goes_on, TextGives, too_long, fits}
+use Rattle.text_language.specs.Syntax.{spelling}
+use Rattle.text_language.specs.Text.{TextGives}
 use Rattle.text_lines.specs.Faultless.{UsesFit, names_crate}
 use Rattle.text_lines.proofs.NoFault.{passes-tests, belongs-to-crate, uses-crates}
 use Rattle.text_lines.proofs.FittingUses.{faultless-uses}
 use Rattle.text_lowering.proofs.Applied.{each-more, still-there}
-use Rattle.text_lowering.proofs.ScalarTokens.{ScalarBounds, ScalarClause, ScalarClauses, struct-scalars, trait-scalars, impl-scalars, prove-scalars, refute-scalars}
+use Rattle.text_lowering.proofs.EachLine.{text-keeps}
+use Rattle.text_lowering.proofs.ScalarTokens.{AllFine, ScalarBounds, ScalarClause, ScalarClauses, struct-scalars, trait-scalars, impl-scalars, prove-scalars, refute-scalars}
 use Rattle.text_lowering.proofs.Scalars.{ScalarTypes, ScalarArgs}
 use Rattle.text_lowering.proofs.Standing.{AutosAreBare}
 use Rattle.text_lowering.proofs.Texts.{Well, is_bare, autos-bare, line-added, core-well}
@@ -399,8 +400,8 @@ impl-added d x h false formed =
       core = h.core;
     }
 
-pub line-formed : (d : Declarations) (line : List ℕ) (l : Line) → IsWritten line l → fault_of d l ≡ None → Well d → Formed d → Formed (added d l)
-line-formed d line (crate_line n us) w f well h =
+pub line-formed : (d : Declarations) (l : Line) → AllFine (spelling l) → fault_of d l ≡ None → Well d → Formed d → Formed (added d l)
+line-formed d (crate_line n us) w f well h =
     let l = crate_line n us in
     let e = added d l in
     let x = crate_of d n us in
@@ -426,7 +427,7 @@ line-formed d line (crate_line n us) w f well h =
     crates-there : (vs : List (List ℕ)) → UsesFit d (crate_line n us) (map crate_use vs) → (u : ℕ) → In u (map (λ v. crate_number (known d v)) vs) → u < length d.crates
     crates-there [] g u i = absurd (in-nothing u i)
     crates-there (v ∷ vs) g u i = elim (in-cases u (crate_number (known d v)) (map (λ z. crate_number (known d z)) vs) i) [ inl q ↦ subst (λ k. k < length d.crates) q (crate-there d v h g.0) | inr j ↦ crates-there vs g.1 u j ]
-line-formed d line (prove_line c ps a bs ks) w f well h =
+line-formed d (prove_line c ps a bs ks) w f well h =
     let l = prove_line c ps a bs ks in
     let e = added d l in
     let k = crate_number (known d c) in
@@ -434,7 +435,7 @@ line-formed d line (prove_line c ps a bs ks) w f well h =
     let goes = λ (x : ℕ). item-grows d e [] [] (nothing-behind d.structs) (nothing-behind d.traits) x (seen-still d e refl x) in
     let bare = autos-bare d well.bare in
     let free = placeholder-free (scope_of d l k) in
-    let scalar = prove-scalars line c ps a bs ks w in
+    let scalar = prove-scalars c ps a bs ks w in
     let grown = reference-grows (scope_of d l k) (scope e k) (own-grows d l k refl) in
     let seen : SeenUses d l k = (faultless-uses d l f, asker-sees d l c (uses-crates d l f) (passes-tests d l f).has_seen_names) in
     let all = tail-seen d l 0 k placeholder vs placeholder-sorted free well.struct_numbers well.trait_numbers bare (crate_use c) (flat_map (clause_uses d) (a ∷ bs) ++ flat_map (clause_uses d) ks) seen in
@@ -451,7 +452,7 @@ line-formed d line (prove_line c ps a bs ks) w f well h =
       later_impls = later-still d e goes h;
       core = h.core;
     }
-line-formed d line (refute_line c ps a bs) w f well h =
+line-formed d (refute_line c ps a bs) w f well h =
     let l = refute_line c ps a bs in
     let e = added d l in
     let k = crate_number (known d c) in
@@ -459,7 +460,7 @@ line-formed d line (refute_line c ps a bs) w f well h =
     let goes = λ (x : ℕ). item-grows d e [] [] (nothing-behind d.structs) (nothing-behind d.traits) x (seen-still d e refl x) in
     let bare = autos-bare d well.bare in
     let free = placeholder-free (scope_of d l k) in
-    let scalar = refute-scalars line c ps a bs w in
+    let scalar = refute-scalars c ps a bs w in
     let grown = reference-grows (scope_of d l k) (scope e k) (own-grows d l k refl) in
     let seen : SeenUses d l k = (faultless-uses d l f, asker-sees d l c (uses-crates d l f) (passes-tests d l f).has_seen_names) in
     let all = tail-seen d l 0 k placeholder vs placeholder-sorted free well.struct_numbers well.trait_numbers bare (crate_use c) (flat_map (clause_uses d) (a ∷ bs)) seen in
@@ -474,7 +475,7 @@ line-formed d line (refute_line c ps a bs) w f well h =
       later_impls = later-still d e goes h;
       core = h.core;
     }
-line-formed d line (struct_line g n ps fs) w f well h =
+line-formed d (struct_line g n ps fs) w f well h =
     let l = struct_line g n ps fs in
     let e = added d l in
     let x = struct_of d (item_meanings d l 0) g n ps fs in
@@ -485,34 +486,34 @@ line-formed d line (struct_line g n ps fs) w f well h =
       crates = h.crates;
       structs = each-more (StructFormed e) d.structs x (structs-still d e goes h)
           (each-map (IsFormedField (scope_of d l (last_crate d))) (IsFormedField (scope e (last_crate d))) (field-grows (scope_of d l (last_crate d)) (scope e (last_crate d)) (own-grows d l (last_crate d) refl)) (field_trees (item_meanings d l 0) fs)
-          (fields-formed d l 0 (last_crate d) param [] param-sorted (param-free (scope_of d l (last_crate d))) at well.trait_numbers (autos-bare (with_own d l) well.bare) fs (struct-scalars line g n ps fs w) (faultless-uses d l f, own-seen d l f refl refl p.has_seen_names)));
+          (fields-formed d l 0 (last_crate d) param [] param-sorted (param-free (scope_of d l (last_crate d))) at well.trait_numbers (autos-bare (with_own d l) well.bare) fs (struct-scalars g n ps fs w) (faultless-uses d l f, own-seen d l f refl refl p.has_seen_names)));
       traits = traits-still d e goes h;
       impls = impls-still d e goes h;
       questions = questions-still d e goes h;
       later_impls = later-still d e goes h;
       core = h.core;
     }
-line-formed d line (trait_line g a n ps bs) w f well h =
+line-formed d (trait_line g a n ps bs) w f well h =
     let l = trait_line g a n ps bs in
     let e = added d l in
     let x = trait_of d (item_meanings d l 1) g a n ps bs in
     let p = passes-tests d l f in
     let goes = λ (c : ℕ). item-grows d e [] (x ∷ []) (nothing-behind d.structs) refl c (seen-still d e refl c) in
     let at = pushed (λ k (y : NamedTrait). y.item.name ≡ k) d.traits (own_trait d g a n ps) well.trait_numbers refl in
-    let bare = autos-bare (with_own d l) (bare-there d (own_trait d g a n ps) x refl (line-added d line l w f well).bare) in
+    let bare = autos-bare (with_own d l) (bare-there d (own_trait d g a n ps) x refl (line-added d l w f well).bare) in
     record {
       crates = h.crates;
       structs = structs-still d e goes h;
       traits = each-more (TraitFormed e) d.traits x (traits-still d e goes h)
           (each-map (IsFormedReference (scope_of d l (last_crate d))) (IsFormedReference (scope e (last_crate d))) (reference-grows (scope_of d l (last_crate d)) (scope e (last_crate d)) (own-grows d l (last_crate d) refl))
           (map (bound_with_self (item_meanings d l 1) (leaf (param of_type 0))) bs)
-          (bounds-formed d l 1 (last_crate d) param [] param-sorted (param-free (scope_of d l (last_crate d))) well.struct_numbers at bare bs (trait-scalars line g a n ps bs w) (faultless-uses d l f, own-seen d l f refl refl p.has_seen_names)));
+          (bounds-formed d l 1 (last_crate d) param [] param-sorted (param-free (scope_of d l (last_crate d))) well.struct_numbers at bare bs (trait-scalars g a n ps bs w) (faultless-uses d l f, own-seen d l f refl refl p.has_seen_names)));
       impls = impls-still d e goes h;
       questions = questions-still d e goes h;
       later_impls = later-still d e goes h;
       core = λ k m q. still-there d.traits (x ∷ []) k m (h.core k m q);
     }
-line-formed d line (impl_line ps k ks) w f well h = impl-added d x h d.in_section formed
+line-formed d (impl_line ps k ks) w f well h = impl-added d x h d.in_section formed
   where
     l : Line
     l = impl_line ps k ks
@@ -533,7 +534,7 @@ line-formed d line (impl_line ps k ks) w f well h = impl-added d x h d.in_sectio
     seen = (faultless-uses d l f, (passes-tests d l f).has_seen_names)
 
     scalar : ScalarClause k × ScalarClauses ks
-    scalar = impl-scalars line ps k ks w
+    scalar = impl-scalars ps k ks w
 
     formed : IsFormedReference (scope_of d l home) x.item.header × Each (IsFormedReference (scope_of d l home)) x.item.clauses
     formed =
@@ -542,11 +543,11 @@ line-formed d line (impl_line ps k ks) w f well h = impl-added d x h d.in_sectio
           header-formed d l 0 home param [] param-sorted free well.struct_numbers well.trait_numbers bare k scalar.0 header,
           clauses-formed d l 0 home param [] param-sorted free well.struct_numbers well.trait_numbers bare ks scalar.1 all,
         )
-line-formed d line (later_line n) w f well h =
+line-formed d (later_line n) w f well h =
     let e = added d (later_line n) in
     let goes = λ (x : ℕ). item-grows d e [] [] (nothing-behind d.structs) (nothing-behind d.traits) x (seen-still d e refl x) in
     record { crates = h.crates; structs = structs-still d e goes h; traits = traits-still d e goes h; impls = impls-still d e goes h; questions = questions-still d e goes h; later_impls = later-still d e goes h; core = h.core }
-line-formed d line (supers_line n) w f well h =
+line-formed d (supers_line n) w f well h =
     let e = added d (supers_line n) in
     let goes = λ (x : ℕ). item-grows d e [] [] (nothing-behind d.structs) (nothing-behind d.traits) x (seen-still d e refl x) in
     record { crates = h.crates; structs = structs-still d e goes h; traits = traits-still d e goes h; impls = impls-still d e goes h; questions = questions-still d e goes h; later_impls = later-still d e goes h; core = h.core }
@@ -574,25 +575,6 @@ core-formed = record {
 }
 
 -- ---- texts
-abbrev FormedIfTaken : {E : Type 0} → Result Declarations E → Type 0
-FormedIfTaken (Ok d) = Well d × Formed d
-FormedIfTaken (Err e) = Unit {0}
-
-line-taken : (d : Declarations) (line : List ℕ) (r : Result Declarations ℕ) → LineGives d line r → Well d × Formed d → FormedIfTaken r
-line-taken d line _ (other_byte a) h = tt
-line-taken d line _ (blank a b) h = h
-line-taken d line _ (unwritten a b u) h = tt
-line-taken d line _ (faulty l n a b w f) h = tt
-line-taken d line _ (adds l a b w f) h = (line-added d line l w f h.0, line-formed d line l w f h.0 h.1)
-
-lines-taken : (d : Declarations) (k : ℕ) (ls : List (List ℕ)) (r : Result Declarations (ℕ × ℕ)) → LinesGive d k ls r → Well d × Formed d → FormedIfTaken r
-lines-taken d k ls r (ends _ _) h = h
-lines-taken d k ls r (fails _ _ l rest n g) h = tt
-lines-taken d k ls r (goes_on _ e _ l rest _ g more) h = lines-taken e (suc k) rest r more (line-taken d l (Ok e) g h)
-
-text-taken : (bytes : List ℕ) (r : Result Declarations (ℕ × ℕ)) → TextGives bytes r → FormedIfTaken r
-text-taken bytes _ (too_long h) = tt
-text-taken bytes r (fits _ h p) = lines-taken nothing_declared 1 _ r p (core-well, core-formed)
-
 pub texts-are-formed : (bytes : List ℕ) (d : Declarations) → TextGives bytes (Ok d) → Well d × Formed d
-texts-are-formed bytes d h = text-taken bytes (Ok d) h
+texts-are-formed bytes d t =
+    text-keeps (λ e. Well e × Formed e) (λ e l w f h. (line-added e l w f h.0, line-formed e l w f h.0 h.1)) (core-well, core-formed) bytes d t

@@ -1,5 +1,5 @@
 -- What a text without a fault keeps from line to line, beside what goals need: numbers, homes, auto traits, headers, and rising `dyn`s.
-use Rattle.std.proofs.Common.{◌≡◌, ◌<◌, ◌≤◌, ◌-◌, ◌+◌, ℕ, zero, suc, Bool, true, false, ◌&&◌, ◌||◌, ◌==◌, List, [], ◌∷◌, ◌++◌, map, length, append_assoc, Option, Some, None, Result, Ok, Err, refl, sym, ap, ◌∙◌, subst, arith}
+use Rattle.std.proofs.Common.{◌≡◌, ◌<◌, ◌≤◌, ◌-◌, ◌+◌, ℕ, zero, suc, Bool, true, false, ◌&&◌, ◌||◌, ◌==◌, List, [], ◌∷◌, ◌++◌, map, length, append_assoc, Option, Some, None, Ok, refl, sym, ap, ◌∙◌, subst, arith}
 use Rattle.std.proofs.lemmas.Option.{same_Some}
 use Rattle.std.proofs.lemmas.Bool.{eqb-true, ne_eqb}
 use Rattle.std.specs.Prelude.{slice_get, find, if◌then◌else◌, not, unwrap_or}
@@ -21,11 +21,13 @@ use Rattle.text_language.specs.Faults.{fault_of, belongs_to_crate, is_impl, is_l
 use Rattle.text_language.specs.Promised.Faults.{with_own, is_among, is_auto_name}
 use Rattle.text_language.specs.Lowering.{crate_number, place_among, trait_number, struct_label, type_label, type_tree, args_trees, bound_with_self}
 use Rattle.text_language.specs.Adding.{added, item_meanings, crate_of, struct_of, trait_of, impl_of}
-use Rattle.text_language.specs.Written.{IsWritten}
-use Rattle.text_language.specs.Text.{LineGives, other_byte, blank, unwritten, faulty, adds, LinesGive, ends, fails, goes_on, TextGives, too_long, fits}
+use Rattle.text_language.specs.Syntax.{spelling}
+use Rattle.text_language.specs.Text.{TextGives}
 use Rattle.text_lines.proofs.NoFault.{passes-tests, belongs-to-crate, uses-crates}
 use Rattle.text_lines.proofs.FittingUses.{faultless-uses}
 use Rattle.text_lowering.proofs.Applied.{each-more, still-there}
+use Rattle.text_lowering.proofs.EachLine.{text-keeps}
+use Rattle.text_lowering.proofs.ScalarTokens.{AllFine}
 use Rattle.text_lowering.proofs.Texts.{Well, AtPlaces, autos-bare, line-added, core-well}
 use Rattle.text_lowering.proofs.Trees.{and-left, and-right, or-left}
 use Rattle.type_terms.proofs.Made.{false-true}
@@ -165,7 +167,7 @@ not-built-in (Some (a_crate i)) k t h = absurd cc
 not-built-in (Some (a_struct i x ks)) k t h = absurd cc
 not-built-in (Some (a_trait i x a ks)) k t h = ne_eqb i sized (λ e. not-both (sized == i) (subst (λ z. (sized == z) ≡ true) (sym e) (self-number sized)) (or-left (sized == i) _ h))
 
-module _ (d : Declarations) (line : List ℕ) (ps : Params) (k : Clause) (ks : List Clause) (w : IsWritten line (impl_line ps k ks)) (f : fault_of d (impl_line ps k ks) ≡ None) (well : Well d) (kept : Kept d) where
+module _ (d : Declarations) (ps : Params) (k : Clause) (ks : List Clause) (f : fault_of d (impl_line ps k ks) ≡ None) (well : Well d) (kept : Kept d) where
   abbrev l : Line
   l = impl_line ps k ks
 
@@ -307,8 +309,8 @@ impl-kept d x k h false f g =
       later_homes = h.later_homes;
     }
 
-pub line-kept : (d : Declarations) (line : List ℕ) (l : Line) → IsWritten line l → fault_of d l ≡ None → Well d → Formed d → Kept d → Kept (added d l)
-line-kept d line (crate_line n us) w f well formed h =
+pub line-kept : (d : Declarations) (l : Line) → fault_of d l ≡ None → Well d → Formed d → Kept d → Kept (added d l)
+line-kept d (crate_line n us) f well formed h =
     let e = added d (crate_line n us) in
     let x = crate_of d n us in
     let see = seen-more (world_of d) (world_of e) (λ y i. subst (In y) (sym (map-more d.crates x)) (in-left y (world_of d).crates (x.item ∷ []) i)) (longer d.crates x) in
@@ -328,7 +330,7 @@ line-kept d line (crate_line n us) w f well formed h =
       later_headers = later-still d e (λ k y q. q) (λ k y q. q) see (grown d.crates x) d.later_impls h.later_headers;
       later_homes = h.later_homes;
     }
-line-kept d line (prove_line c ps a bs ks) w f well formed h =
+line-kept d (prove_line c ps a bs ks) f well formed h =
     let e = added d (prove_line c ps a bs ks) in
     record {
       impl_numbers = h.impl_numbers;
@@ -346,7 +348,7 @@ line-kept d line (prove_line c ps a bs ks) w f well formed h =
       later_headers = same-later d e refl refl refl d.later_impls h.later_headers;
       later_homes = h.later_homes;
     }
-line-kept d line (refute_line c ps a bs) w f well formed h =
+line-kept d (refute_line c ps a bs) f well formed h =
     let e = added d (refute_line c ps a bs) in
     record {
       impl_numbers = h.impl_numbers;
@@ -364,7 +366,7 @@ line-kept d line (refute_line c ps a bs) w f well formed h =
       later_headers = same-later d e refl refl refl d.later_impls h.later_headers;
       later_homes = h.later_homes;
     }
-line-kept d line (supers_line n) w f well formed h =
+line-kept d (supers_line n) f well formed h =
     let e = added d (supers_line n) in
     record {
       impl_numbers = h.impl_numbers;
@@ -382,7 +384,7 @@ line-kept d line (supers_line n) w f well formed h =
       later_headers = same-later d e refl refl refl d.later_impls h.later_headers;
       later_homes = h.later_homes;
     }
-line-kept d line (later_line n) w f well formed h =
+line-kept d (later_line n) f well formed h =
     let e = added d (later_line n) in
     record {
       impl_numbers = h.impl_numbers;
@@ -400,7 +402,7 @@ line-kept d line (later_line n) w f well formed h =
       later_headers = same-later d e refl refl refl d.later_impls h.later_headers;
       later_homes = homes-more d e (crate_number (known d n)) refl d.later_impls h.later_homes;
     }
-line-kept d line (struct_line g n ps fs) w f well formed h =
+line-kept d (struct_line g n ps fs) f well formed h =
     let l = struct_line g n ps fs in
     let e = added d l in
     let x = struct_of d (item_meanings d l 0) g n ps fs in
@@ -420,7 +422,7 @@ line-kept d line (struct_line g n ps fs) w f well formed h =
       later_headers = later-still d e (λ k y q. still-there d.structs (x ∷ []) k y q) (λ k y q. q) (seen-still d e refl) (same-length (length d.crates)) d.later_impls h.later_headers;
       later_homes = h.later_homes;
     }
-line-kept d line (trait_line g a n ps bs) w f well formed h =
+line-kept d (trait_line g a n ps bs) f well formed h =
     let l = trait_line g a n ps bs in
     let e = added d l in
     let x = trait_of d (item_meanings d l 1) g a n ps bs in
@@ -440,10 +442,10 @@ line-kept d line (trait_line g a n ps bs) w f well formed h =
       later_headers = later-still d e (λ k y q. q) (λ k y q. still-there d.traits (x ∷ []) k y q) (seen-still d e refl) (same-length (length d.crates)) d.later_impls h.later_headers;
       later_homes = h.later_homes;
     }
-line-kept d line (impl_line ps k ks) w f well formed h =
+line-kept d (impl_line ps k ks) f well formed h =
     let l = impl_line ps k ks in
     let x = impl_of d (item_meanings d l 0) ps k ks in
-    impl-kept d x (header-kept d line ps k ks w f well h) h d.in_section
+    impl-kept d x (header-kept d ps k ks f well h) h d.in_section
     (λ q. got-there d.sections (length d.sections - 1) (least (length d.sections) (h.has_section q)) ∙ ap Some (ap (λ b. if b then last_changed d else last_crate d) (sym q)))
     (λ q. (
       ap (λ b. if b then last_later d else length d.impls) q,
@@ -516,25 +518,9 @@ pub record AllKept (d : Declarations) : Type 0 where
   pub formed : Formed d
   pub kept : Kept d
 
-abbrev KeptIfTaken : {E : Type 0} → Result Declarations E → Type 0
-KeptIfTaken (Ok d) = AllKept d
-KeptIfTaken (Err e) = Unit {0}
-
-line-taken : (d : Declarations) (line : List ℕ) (r : Result Declarations ℕ) → LineGives d line r → AllKept d → KeptIfTaken r
-line-taken d line _ (other_byte a) h = tt
-line-taken d line _ (blank a b) h = h
-line-taken d line _ (unwritten a b u) h = tt
-line-taken d line _ (faulty l n a b w f) h = tt
-line-taken d line _ (adds l a b w f) h = record { well = line-added d line l w f h.well; formed = line-formed d line l w f h.well h.formed; kept = line-kept d line l w f h.well h.formed h.kept }
-
-lines-taken : (d : Declarations) (k : ℕ) (ls : List (List ℕ)) (r : Result Declarations (ℕ × ℕ)) → LinesGive d k ls r → AllKept d → KeptIfTaken r
-lines-taken d k ls r (ends _ _) h = h
-lines-taken d k ls r (fails _ _ l rest n g) h = tt
-lines-taken d k ls r (goes_on _ e _ l rest _ g more) h = lines-taken e (suc k) rest r more (line-taken d l (Ok e) g h)
-
-text-taken : (bytes : List ℕ) (r : Result Declarations (ℕ × ℕ)) → TextGives bytes r → KeptIfTaken r
-text-taken bytes _ (too_long h) = tt
-text-taken bytes r (fits _ h p) = lines-taken nothing_declared 1 _ r p (record { well = core-well; formed = core-formed; kept = core-kept })
+-- what is kept of goals, and what is kept of sets
+line-keeps-all : (d : Declarations) (l : Line) → AllFine (spelling l) → fault_of d l ≡ None → AllKept d → AllKept (added d l)
+line-keeps-all d l w f h = record { well = line-added d l w f h.well; formed = line-formed d l w f h.well h.formed; kept = line-kept d l f h.well h.formed h.kept }
 
 pub texts-are-kept : (bytes : List ℕ) (d : Declarations) → TextGives bytes (Ok d) → AllKept d
-texts-are-kept bytes d h = text-taken bytes (Ok d) h
+texts-are-kept bytes d t = text-keeps AllKept line-keeps-all (record { well = core-well; formed = core-formed; kept = core-kept }) bytes d t

@@ -91,7 +91,7 @@ pub mod Partners
 pub mod DeclaredTrees
 mod CoveredClauses
 mod RisingBounds
-mod KeptTexts
+pub mod KeptTexts
 mod RenumberedItems
 pub mod JoinedTexts
 pub mod OwnValues

@@ -1,5 +1,5 @@
 -- The types of a question are made as terms are, of placeholders and its own unknowns and no other open places, once they are plain.
-use Rattle.std.proofs.Common.{◌≡◌, ℕ, suc, ◌-◌, Bool, true, false, ◌&&◌, List, [], ◌∷◌, ◌++◌, map, length, Option, Some, None, Result, Ok, Err, refl, sym, ap, ◌∙◌, subst, arith}
+use Rattle.std.proofs.Common.{◌≡◌, ℕ, suc, Bool, true, false, ◌&&◌, List, [], ◌∷◌, ◌++◌, map, length, Option, Some, None, Ok, refl, sym, ap, ◌∙◌, subst, arith}
 use Rattle.std.proofs.lemmas.Bool.Decides.{nat_tests}
 use Rattle.std.specs.Prelude.{not, ltb, ◌<◌, if◌then◌else◌, ◌==◌, ◌+◌}
 use Rattle.std.specs.List.{list_any, list_all, flat_map}
@@ -13,16 +13,15 @@ use Rattle.type_terms.specs.Promised.Worlds.{Reference}
 use Rattle.type_terms.specs.Made.{terms, bounds, traits, is_made}
 use Rattle.type_terms.proofs.Made.{false-true, made-weaker}
 use Rattle.declarations.specs.Promised.Elaboration.{Each}
-use Rattle.text_language.specs.Promised.Syntax.{TypeTree, of_primitive, never_type, variable_type, named, reference_to, pointer_to, slice_of, array_of, tuple_of, fn_of, fn_to, dyn_of, Types, no_types, and_type, Args, no_args, and_arg, Arg, lifetime_arg, number_arg, type_arg, Item, bound_item, lifetime_item, DynBounds, no_items, and_item, Length, number_length, name_length, variable_length, Clause, Line, crate_line, struct_line, trait_line, impl_line, prove_line, refute_line, later_line, supers_line}
-use Rattle.text_language.specs.Promised.Declarations.{Declarations, NamedImpl, Question, Variable, Known, a_crate, a_struct, a_trait, known}
-use Rattle.text_language.specs.Declarations.{nothing_declared}
+use Rattle.text_language.specs.Promised.Syntax.{TypeTree, of_primitive, never_type, variable_type, named, reference_to, pointer_to, slice_of, array_of, tuple_of, fn_of, fn_to, dyn_of, Types, no_types, and_type, Args, no_args, and_arg, Arg, lifetime_arg, number_arg, type_arg, Item, bound_item, lifetime_item, DynBounds, no_items, and_item, Length, number_length, name_length, variable_length, Params, Clause, Line, prove_line, refute_line}
+use Rattle.text_language.specs.Promised.Declarations.{Declarations, Question, Variable, Known, a_crate, a_struct, a_trait, known}
 use Rattle.text_language.specs.Uses.{Use, name_use, trait_use, variable_use, dyn_use, items_use, item_shape, item_shapes, args_count, types_count, kinds_of_struct, kinds_of_trait, next_kind, other_kinds, length_uses, lifetime_uses, binder_uses, type_uses, types_uses, args_uses, arg_uses, item_uses, items_uses, bound_uses, clause_uses, params_of}
 use Rattle.text_language.specs.Faults.{fault_of, is_line_param, is_param_of, is_type_of, static_name, is_late, is_any, variables_in, once, is_of_other_kind}
 use Rattle.text_language.specs.Promised.Faults.{with_own, is_among, is_auto_name}
 use Rattle.text_language.specs.Lowering.{Meanings, place_among, variable_label, type_label, lifetime_under, lifetime_label, optional_lifetime, length_label, struct_label, trait_number, auto_leaves, autos, with_auto, item_lifetime, last_lifetime, type_tree, types_trees, args_trees, arg_tree, item_tree, items_trees, clause_reference}
-use Rattle.text_language.specs.Adding.{added, impl_of, item_meanings, question_of, question_meanings}
-use Rattle.text_language.specs.Written.{IsWritten}
-use Rattle.text_language.specs.Text.{LineGives, other_byte, blank, unwritten, faulty, adds, LinesGive, ends, fails, goes_on, TextGives, too_long, fits}
+use Rattle.text_language.specs.Adding.{question_of, question_meanings}
+use Rattle.text_language.specs.Syntax.{spelling}
+use Rattle.text_language.specs.Text.{TextGives}
 use Rattle.text_lines.specs.Faultless.{UseFits, UsesFit}
 use Rattle.text_lines.proofs.NoFault.{passes-tests}
 use Rattle.text_lines.proofs.FittingUses.{faultless-uses}
@@ -30,11 +29,10 @@ use Rattle.text_lowering.specs.Promised.SeenWorlds.{plain, plain_label, all_kept
 use Rattle.text_lowering.specs.Plain.{unbound_references}
 use Rattle.text_lowering.specs.QuestionVariables.{number_of}
 use Rattle.text_lowering.specs.Promised.Questions.{variable_kinds}
-use Rattle.text_lowering.proofs.Begins.{is_scalar}
 use Rattle.text_lowering.proofs.Variables.{ArePlaced, are-placed}
-use Rattle.text_lowering.proofs.Scalars.{Scalars, ScalarTypes, ScalarArgs, ScalarArg, ScalarItem}
-use Rattle.text_lowering.proofs.ScalarTokens.{ScalarClause, ScalarClauses, prove-scalars, refute-scalars}
-use Rattle.text_lowering.proofs.Applied.{each-more}
+use Rattle.text_lowering.proofs.Scalars.{is_scalar, Scalars, ScalarTypes, ScalarArgs, ScalarArg, ScalarItem}
+use Rattle.text_lowering.proofs.EachLine.{questions-keep}
+use Rattle.text_lowering.proofs.ScalarTokens.{AllFine, ScalarClause, ScalarClauses, prove-scalars, refute-scalars}
 use Rattle.text_lowering.proofs.Trees.{and, and-left, and-right, or-left, or-right}
 use Rattle.sessions.specs.Goals.{is_fixed, are_fixed}
 use Rattle.text_language.proofs.Basics.{among-first, no-count}
@@ -420,59 +418,28 @@ asked-own d l ks scalar uses one =
     (each-own (kinds_of_all (once all)) (map (clause_reference (means w d l (once all))) ks)
     (good-clauses w d l (once all) ks scalar (all-fit w d l (once all) (flat_map (clause_uses (with_own d l)) ks) uses (placed-stand d l all all (are-placed all all (λ n p h. h) one)))))
 
-line-fixed : (d : Declarations) (text : List ℕ) (l : Line) → IsWritten text l → fault_of d l ≡ None → Each AreFixedTerms d.questions → Each AreFixedTerms (added d l).questions
-line-fixed d text (crate_line n us) w f h = h
-line-fixed d text (struct_line g n ps fs) w f h = h
-line-fixed d text (trait_line g b n ps bs) w f h = h
-line-fixed d text (impl_line ps k ks) w f h = by d.in_section
-  where
-    x : NamedImpl
-    x = impl_of d (item_meanings d (impl_line ps k ks) 0) ps k ks
-
-    by : (b : Bool) → Each AreFixedTerms (if b then record d { later_impls = d.later_impls ++ record { section = length d.sections - 1; added = x } ∷ [] } else record d { impls = d.impls ++ x ∷ [] }).questions
-    by true = h
-    by false = h
-line-fixed d text (later_line n) w f h = h
-line-fixed d text (supers_line n) w f h = h
-line-fixed d text (prove_line c ps a bs ks) w f h =
+-- the question of a `prove` line
+proves-fixed : (d : Declarations) (c : List ℕ) (ps : Params) (a : Clause) (bs ks : List Clause) → AllFine (spelling (prove_line c ps a bs ks)) → fault_of d (prove_line c ps a bs ks) ≡ None
+    → AreFixedTerms (question_of d (question_meanings d (prove_line c ps a bs ks)) false c ps a bs ks)
+proves-fixed d c ps a bs ks w f =
     let l = prove_line c ps a bs ks in
     let us = flat_map (clause_uses d) (a ∷ bs) in
     let vs = variables_in us in
-    let scalar = prove-scalars text c ps a bs ks w in
+    let scalar = prove-scalars c ps a bs ks w in
     let p = passes-tests d l f in
     let uses = (faultless-uses d l f).1 in
     let others = all-fit none_stand d l (once vs) (flat_map (clause_uses d) ks) (fits-rest d l us (flat_map (clause_uses d) ks) uses) (none-there none_stand d l (once vs) _ (or-left _ _ p.has_asked_variables)) in
     let own = asked-own d l (a ∷ bs) scalar.0 (fits-first d l us (flat_map (clause_uses d) ks) uses) (or-right _ _ p.has_asked_variables) in
-    each-more AreFixedTerms d.questions (question_of d (question_meanings d l) false c ps a bs ks) h (record {
-      own = own.0;
-      further = own.1;
-      clauses = fixed-references (unbound_references (map (clause_reference (question_meanings d l)) ks)) (good-clauses none_stand d l (once vs) ks scalar.1 others);
-    })
-line-fixed d text (refute_line c ps a bs) w f h =
+    record { own = own.0; further = own.1; clauses = fixed-references (unbound_references (map (clause_reference (question_meanings d l)) ks)) (good-clauses none_stand d l (once vs) ks scalar.1 others) }
+
+-- the question of a `refute` line
+refutes-fixed : (d : Declarations) (c : List ℕ) (ps : Params) (a : Clause) (bs : List Clause) → AllFine (spelling (refute_line c ps a bs)) → fault_of d (refute_line c ps a bs) ≡ None
+    → AreFixedTerms (question_of d (question_meanings d (refute_line c ps a bs)) true c ps a bs [])
+refutes-fixed d c ps a bs w f =
     let l = refute_line c ps a bs in
-    let own = asked-own d l (a ∷ bs) (refute-scalars text c ps a bs w) (faultless-uses d l f).1 (passes-tests d l f).has_asked_variables in
-    each-more AreFixedTerms d.questions (question_of d (question_meanings d l) true c ps a bs []) h (record { own = own.0; further = own.1; clauses = refl })
+    let own = asked-own d l (a ∷ bs) (refute-scalars c ps a bs w) (faultless-uses d l f).1 (passes-tests d l f).has_asked_variables in
+    record { own = own.0; further = own.1; clauses = refl }
 
 -- ---- texts
-abbrev FixedIfTaken : {E : Type 0} → Result Declarations E → Type 0
-FixedIfTaken (Ok d) = Each AreFixedTerms d.questions
-FixedIfTaken (Err e) = Unit {0}
-
-one-line : (d : Declarations) (text : List ℕ) (r : Result Declarations ℕ) → LineGives d text r → Each AreFixedTerms d.questions → FixedIfTaken r
-one-line d text _ (other_byte a) h = tt
-one-line d text _ (blank a b) h = h
-one-line d text _ (unwritten a b u) h = tt
-one-line d text _ (faulty l n a b w f) h = tt
-one-line d text _ (adds l a b w f) h = line-fixed d text l w f h
-
-all-lines : (d : Declarations) (k : ℕ) (ls : List (List ℕ)) (r : Result Declarations (ℕ × ℕ)) → LinesGive d k ls r → Each AreFixedTerms d.questions → FixedIfTaken r
-all-lines d k ls r (ends _ _) h = h
-all-lines d k ls r (fails _ _ l rest n g) h = tt
-all-lines d k ls r (goes_on _ e _ l rest _ g more) h = all-lines e (suc k) rest r more (one-line d l (Ok e) g h)
-
-whole-text : (bytes : List ℕ) (r : Result Declarations (ℕ × ℕ)) → TextGives bytes r → FixedIfTaken r
-whole-text bytes _ (too_long h) = tt
-whole-text bytes r (fits _ h p) = all-lines nothing_declared 1 _ r p tt
-
 pub questions-fixed : (bytes : List ℕ) (d : Declarations) → TextGives bytes (Ok d) → Each AreFixedTerms d.questions
-questions-fixed bytes d h = whole-text bytes (Ok d) h
+questions-fixed bytes d t = questions-keep AreFixedTerms proves-fixed refutes-fixed bytes d t

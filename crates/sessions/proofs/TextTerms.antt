@@ -19,8 +19,7 @@ use Rattle.text_language.specs.Promised.Faults.{with_own, is_among, is_auto_name
 use Rattle.text_language.specs.Faults.{is_line_param, is_param_of, is_type_of, is_trait_of, home_of, is_hidden_use, static_name}
 use Rattle.text_language.specs.Lowering.{Meanings, place_among, trait_number, struct_label, type_label, const_label, lifetime_under, lifetime_label, optional_lifetime, length_label, inserted, with_auto, autos, auto_leaves, item_lifetime, last_lifetime, type_tree, types_trees, args_trees, arg_tree, item_tree, items_trees}
 use Rattle.text_lines.specs.Faultless.{UsesFit}
-use Rattle.text_lowering.proofs.Begins.{is_scalar}
-use Rattle.text_lowering.proofs.Scalars.{Scalars, ScalarTypes, ScalarArgs, ScalarArg, ScalarItem, ScalarItems}
+use Rattle.text_lowering.proofs.Scalars.{is_scalar, Scalars, ScalarTypes, ScalarArgs, ScalarArg, ScalarItem, ScalarItems}
 use Rattle.text_lowering.proofs.Spoken.{sorts-append}
 use Rattle.text_lowering.proofs.Standing.{AutosAreBare}
 use Rattle.text_lowering.proofs.Trees.{and-left, or-left, or-right}

@@ -17,10 +17,9 @@ use Rattle.text_language.specs.Promised.Faults.{with_own, own_trait, is_among}
 use Rattle.text_language.specs.Faults.{is_use_of, is_trait_of, static_name}
 use Rattle.text_language.specs.Lowering.{Meanings, place_among, type_label, struct_label, lifetime_under, lifetime_label, type_tree, args_trees, arg_tree, bound_with_self}
 use Rattle.text_language.specs.Adding.{item_meanings}
-use Rattle.text_lowering.proofs.Begins.{is_scalar}
 use Rattle.text_lowering.proofs.Trees.{or-left, or-right}
 use Rattle.text_lowering.proofs.Types.{AllFit, first-fit, rest-fit}
-use Rattle.text_lowering.proofs.Scalars.{Scalars, ScalarArg, ScalarArgs}
+use Rattle.text_lowering.proofs.Scalars.{is_scalar, Scalars, ScalarArg, ScalarArgs}
 use Rattle.text_lowering.proofs.ScalarTokens.{ScalarBounds}
 use Rattle.text_lowering.proofs.Params.{turned}
 use Rattle.text_lowering.proofs.Spoken.{sorts-append}

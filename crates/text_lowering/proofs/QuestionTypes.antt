@@ -14,9 +14,8 @@ use Rattle.text_language.specs.Faults.{is_type_of, static_name}
 use Rattle.text_language.specs.Lowering.{Meanings, place_among, variable_label, lifetime_under, lifetime_label, optional_lifetime, length_label, struct_label, trait_number, auto_leaves, autos, with_auto, item_lifetime, last_lifetime, type_tree, types_trees, args_trees, arg_tree, item_tree, items_trees, clause_reference}
 use Rattle.declarations.specs.Promised.Elaboration.{Each}
 use Rattle.text_lines.specs.Faultless.{UseFits}
-use Rattle.text_lowering.proofs.Begins.{is_scalar}
 use Rattle.text_lowering.specs.QuestionVariables.{is_undeclared_variable}
-use Rattle.text_lowering.proofs.Scalars.{Scalars, ScalarTypes, ScalarArgs, ScalarArg, ScalarItem, ScalarItems}
+use Rattle.text_lowering.proofs.Scalars.{is_scalar, Scalars, ScalarTypes, ScalarArgs, ScalarArg, ScalarItem, ScalarItems}
 use Rattle.text_lowering.proofs.ScalarTokens.{ScalarClause, ScalarClauses}
 
 -- no parameters

@@ -1,8 +1,18 @@
 -- Primitive types of written lines are scalars, or `str`.
-use Rattle.std.proofs.Common.{◌≡◌, true}
-use Rattle.text_lowering.proofs.Begins.{is_scalar}
+use Rattle.std.proofs.Common.{◌≡◌, Bool, true, false}
+use Rattle.type_terms.specs.Promised.Label.{Label, bool, char, str, int, uint}
 use Rattle.text_language.specs.Promised.Syntax.{TypeTree, of_primitive, never_type, variable_type, named, reference_to, pointer_to, slice_of, array_of, tuple_of, fn_of, fn_to, dyn_of, Types, no_types, and_type, Args, no_args, and_arg, Arg, lifetime_arg, number_arg, type_arg, Item, bound_item, lifetime_item, DynBounds, no_items, and_item}
 
+-- a scalar, or `str`
+abbrev pub is_scalar : Label → Bool
+is_scalar bool = true
+is_scalar char = true
+is_scalar str = true
+is_scalar (int n) = true
+is_scalar (uint n) = true
+is_scalar l = false
+
+-- each primitive type is one
 abbrev mutual
   pub Scalars : TypeTree → Type 0
   Scalars (of_primitive p) = is_scalar p ≡ true

@@ -1,5 +1,5 @@
 -- What a text without a fault declares is declared well.
-use Rattle.std.proofs.Common.{◌≡◌, ℕ, zero, suc, ◌+◌, ◌-◌, Bool, true, false, ◌&&◌, ◌||◌, List, [], ◌∷◌, ◌++◌, length, map, Option, Some, None, Result, Ok, Err, refl, sym, ap, ◌∙◌, subst, arith}
+use Rattle.std.proofs.Common.{◌≡◌, ℕ, zero, suc, ◌+◌, ◌-◌, Bool, true, false, ◌&&◌, ◌||◌, List, [], ◌∷◌, ◌++◌, length, map, Option, Some, None, Ok, refl, sym, ap, ◌∙◌, subst, arith}
 use Rattle.std.proofs.lemmas.Bool.{ne_eqb}
 use Rattle.std.proofs.lemmas.List.Folds.{list_all-append}
 use Rattle.std.proofs.lemmas.List.{map_push}
@@ -16,16 +16,17 @@ use Rattle.text_language.specs.Uses.{uses, params_of}
 use Rattle.text_language.specs.Faults.{fault_of, takes_names, is_loaded_auto}
 use Rattle.text_language.specs.Promised.Faults.{with_own, repeats}
 use Rattle.text_language.specs.Adding.{added, with_impl, struct_of, trait_of, impl_of, item_meanings}
-use Rattle.text_language.specs.Written.{IsWritten}
-use Rattle.text_language.specs.Text.{LineGives, other_byte, blank, unwritten, faulty, adds, LinesGive, ends, fails, goes_on, TextGives, too_long, fits}
+use Rattle.text_language.specs.Syntax.{spelling}
+use Rattle.text_language.specs.Text.{TextGives}
 use Rattle.declarations.specs.Promised.Elaboration.{Each}
 use Rattle.text_lines.proofs.NoFault.{passes-tests}
 use Rattle.text_lines.proofs.FittingUses.{faultless-uses}
 use Rattle.text_lowering.proofs.Tests.{is_good_struct, is_good_trait, is_good_impl}
 use Rattle.text_lowering.proofs.Trees.{and-left, and-right, or-left, or-right}
-use Rattle.text_lowering.proofs.ScalarTokens.{struct-scalars, trait-scalars, impl-scalars}
+use Rattle.text_lowering.proofs.ScalarTokens.{AllFine, struct-scalars, trait-scalars, impl-scalars}
 use Rattle.text_lowering.proofs.Standing.{AutosAreBare}
 use Rattle.text_lowering.proofs.Applied.{BoundsFit, each-more, still-fit, bounds-still-fit, bounds-fit}
+use Rattle.text_lowering.proofs.EachLine.{text-keeps}
 use Rattle.text_lowering.proofs.DeclaredItems.{TraitsNumbered, all-fit, good-struct, good-trait, good-impl}
 
 -- ---- what is kept from line to line
@@ -153,20 +154,20 @@ impl-well d x g h = by d.in_section
       bounds = h.bounds;
     }
 
-pub line-added : (d : Declarations) (line : List ℕ) (l : Line) → IsWritten line l → fault_of d l ≡ None → Well d → Well (added d l)
-line-added d line (crate_line n us) w f h =
+pub line-added : (d : Declarations) (l : Line) → AllFine (spelling l) → fault_of d l ≡ None → Well d → Well (added d l)
+line-added d (crate_line n us) w f h =
     record { structs = h.structs; traits = h.traits; impls = h.impls; later_impls = h.later_impls; struct_numbers = h.struct_numbers; trait_numbers = h.trait_numbers; bare = h.bare; bounds = h.bounds }
-line-added d line (prove_line c ps a bs ks) w f h =
+line-added d (prove_line c ps a bs ks) w f h =
     record { structs = h.structs; traits = h.traits; impls = h.impls; later_impls = h.later_impls; struct_numbers = h.struct_numbers; trait_numbers = h.trait_numbers; bare = h.bare; bounds = h.bounds }
-line-added d line (refute_line c ps a bs) w f h =
+line-added d (refute_line c ps a bs) w f h =
     record { structs = h.structs; traits = h.traits; impls = h.impls; later_impls = h.later_impls; struct_numbers = h.struct_numbers; trait_numbers = h.trait_numbers; bare = h.bare; bounds = h.bounds }
-line-added d line (struct_line g n ps fs) w f h =
+line-added d (struct_line g n ps fs) w f h =
     let l = struct_line g n ps fs in
     let p = passes-tests d l f in
     let x = struct_of d (item_meanings d l 0) g n ps fs in
     let fit = all-fit d l (uses (with_own d l) l) (faultless-uses d l f) (or-left _ _ p.has_asked_variables) in
     record {
-      structs = one-more is_good_struct d.structs x h.structs (good-struct d g n ps fs (struct-scalars line g n ps fs w) fit);
+      structs = one-more is_good_struct d.structs x h.structs (good-struct d g n ps fs (struct-scalars g n ps fs w) fit);
       traits = h.traits;
       impls = h.impls;
       later_impls = h.later_impls;
@@ -175,50 +176,34 @@ line-added d line (struct_line g n ps fs) w f h =
       bare = h.bare;
       bounds = h.bounds;
     }
-line-added d line (trait_line g a n ps bs) w f h =
+line-added d (trait_line g a n ps bs) w f h =
     let l = trait_line g a n ps bs in
     let p = passes-tests d l f in
     let x = trait_of d (item_meanings d l 1) g a n ps bs in
     let fit = all-fit d l (uses (with_own d l) l) (faultless-uses d l f) (or-left _ _ p.has_asked_variables) in
     record {
       structs = h.structs;
-      traits = one-more is_good_trait d.traits x h.traits (good-trait d g a n ps bs h.trait_numbers (trait-scalars line g a n ps bs w) fit p.has_other_bounds);
+      traits = one-more is_good_trait d.traits x h.traits (good-trait d g a n ps bs h.trait_numbers (trait-scalars g a n ps bs w) fit p.has_other_bounds);
       impls = h.impls;
       later_impls = h.later_impls;
       struct_numbers = h.struct_numbers;
       trait_numbers = at-place (λ (y : NamedTrait). y.item.name) d.traits x h.trait_numbers refl;
       bare = one-more is_bare d.traits x h.bare (bare-auto a g n ps bs p.is_bare_auto);
       bounds = each-more (BoundsFit (d.traits ++ x ∷ [])) d.traits x (bounds-still-fit d.traits (x ∷ []) d.traits h.bounds)
-          (still-fit d.traits (x ∷ []) x.item.bounds (bounds-fit d g a n ps bs bs h.trait_numbers (trait-scalars line g a n ps bs w) fit p.has_other_bounds));
+          (still-fit d.traits (x ∷ []) x.item.bounds (bounds-fit d g a n ps bs bs h.trait_numbers (trait-scalars g a n ps bs w) fit p.has_other_bounds));
     }
-line-added d line (impl_line ps k ks) w f h =
+line-added d (impl_line ps k ks) w f h =
     let l = impl_line ps k ks in
     let p = passes-tests d l f in
     let x = impl_of d (item_meanings d l 0) ps k ks in
     let fit = all-fit d l (uses (with_own d l) l) (faultless-uses d l f) (or-left _ _ p.has_asked_variables) in
-    impl-well d x (good-impl d ps k ks (autos-bare d h.bare) (impl-scalars line ps k ks w) fit (no-repeats d l p.has_free_names) p.has_bound_params) h
-line-added d line (later_line n) w f h =
+    impl-well d x (good-impl d ps k ks (autos-bare d h.bare) (impl-scalars ps k ks w) fit (no-repeats d l p.has_free_names) p.has_bound_params) h
+line-added d (later_line n) w f h =
     record { structs = h.structs; traits = h.traits; impls = h.impls; later_impls = h.later_impls; struct_numbers = h.struct_numbers; trait_numbers = h.trait_numbers; bare = h.bare; bounds = h.bounds }
-line-added d line (supers_line n) w f h =
+line-added d (supers_line n) w f h =
     record { structs = h.structs; traits = h.traits; impls = h.impls; later_impls = h.later_impls; struct_numbers = h.struct_numbers; trait_numbers = h.trait_numbers; bare = h.bare; bounds = h.bounds }
 
 -- ---- texts
-abbrev WellIfTaken : {E : Type 0} → Result Declarations E → Type 0
-WellIfTaken (Ok d) = Well d
-WellIfTaken (Err e) = Unit {0}
-
-line-well : (d : Declarations) (line : List ℕ) (r : Result Declarations ℕ) → LineGives d line r → Well d → WellIfTaken r
-line-well d line _ (other_byte a) h = tt
-line-well d line _ (blank a b) h = h
-line-well d line _ (unwritten a b u) h = tt
-line-well d line _ (faulty l n a b w f) h = tt
-line-well d line _ (adds l a b w f) h = line-added d line l w f h
-
-lines-well : (d : Declarations) (k : ℕ) (ls : List (List ℕ)) (r : Result Declarations (ℕ × ℕ)) → LinesGive d k ls r → Well d → WellIfTaken r
-lines-well d k ls r (ends _ _) h = h
-lines-well d k ls r (fails _ _ l rest n g) h = tt
-lines-well d k ls r (goes_on _ e _ l rest _ g more) h = lines-well e (suc k) rest r more (line-well d l (Ok e) g h)
-
 abbrev pub AtPlaces : {A : Type 0} → (A → ℕ) → ℕ → List A → Type 0
 AtPlaces number b [] = Unit {0}
 AtPlaces number b (x ∷ xs) = (number x ≡ b) × AtPlaces number (suc b) xs
@@ -256,9 +241,5 @@ core-well =
       bounds = (tt, (((core_trait_named 0, refl, refl), tt), (((core_trait_named 1, refl, refl), tt), (tt, (tt, (tt, (((core_trait_named 5, refl, refl), tt), (((core_trait_named 6, refl, refl), tt), (tt, tt)))))))));
     }
 
-text-well : (bytes : List ℕ) (r : Result Declarations (ℕ × ℕ)) → TextGives bytes r → WellIfTaken r
-text-well bytes _ (too_long h) = tt
-text-well bytes r (fits _ h p) = lines-well nothing_declared 1 _ r p core-well
-
 pub texts-are-well : (bytes : List ℕ) (d : Declarations) → TextGives bytes (Ok d) → Well d
-texts-are-well bytes d h = text-well bytes (Ok d) h
+texts-are-well bytes d t = text-keeps Well line-added core-well bytes d t

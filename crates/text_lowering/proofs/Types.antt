@@ -15,8 +15,7 @@ use Rattle.text_language.specs.Lowering.{Meanings, place_among, type_label, cons
 use Rattle.text_language.specs.Adding.{item_meanings}
 use Rattle.text_lines.specs.Faultless.{UseFits}
 use Rattle.text_lowering.proofs.Sorts.{has_sort}
-use Rattle.text_lowering.proofs.Begins.{is_scalar}
-use Rattle.text_lowering.proofs.Scalars.{Scalars, ScalarTypes, ScalarArgs, ScalarArg, ScalarItem}
+use Rattle.text_lowering.proofs.Scalars.{is_scalar, Scalars, ScalarTypes, ScalarArgs, ScalarArg, ScalarItem}
 use Rattle.text_lowering.proofs.Trees.{Good, Ends, good-none, good-append, good-node, good-value, good-static, good-param, good-bound, ends-static, ends-bound, ends-param, ends-auto, good-dyn, good-bare-dyn, and-left, and-right, or-left, or-right}
 use Rattle.text_language.proofs.Basics.{among-first, no-count}
 
