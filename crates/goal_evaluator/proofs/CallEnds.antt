@@ -37,9 +37,10 @@ says-rest old new c ns rs r (Maybe Overflow) h = record { held = h.held; variabl
 module _ (mode : TypingMode) (es : List Entry) (old mid new : Context) (left : List NestedGoal) (made : mid ≡ record old { table = mid.table }) (settled : new ≡ record mid { nested = left; replies = [] }) where
   rest : new ≡ record old { table = new.table; nested = new.nested; replies = [] }
   rest =
-      same-context old.mode new.mode new.table new.table old.variables new.variables old.values new.values new.nested new.nested [] new.replies
+      same-context old.mode new.mode new.table new.table old.variables new.variables old.values new.values new.nested new.nested [] new.replies old.capacity new.capacity
       (ap (λ (c : Context). c.mode) settled ∙ ap (λ (c : Context). c.mode) made) refl (ap (λ (c : Context). c.variables) settled ∙ ap (λ (c : Context). c.variables) made)
       (ap (λ (c : Context). c.values) settled ∙ ap (λ (c : Context). c.values) made) refl (ap (λ (c : Context). c.replies) settled)
+      (ap (λ (c : Context). c.capacity) settled ∙ ap (λ (c : Context). c.capacity) made)
 
   is-settled : (terms : List Entry) → table_trees es mid.table ≡ table_trees terms mid.table → goals_trees es left ≡ goals_trees terms left
       → (c : Certainty) (o : Rounds (evaluation mode)) → SameRounds mode terms mid.table left c o → ContextIsSettled mode es old new o

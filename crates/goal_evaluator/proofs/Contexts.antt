@@ -50,17 +50,19 @@ pub every-more : {A : Type 0} (P : A → Type 0) (xs : List A) (x : A) → Every
 every-more P [] x h p = (p, tt)
 every-more P (y ∷ ys) x h p = (h.0, every-more P ys x h.1 p)
 
--- a context stays ready with one more goal, or one more reply
+-- a context stays ready with one more goal
 pub ready-added : (es : List Entry) (c d : Context) (n : NestedGoal) → d ≡ record c { nested = c.nested ++ n ∷ [] } → IsReadyContext es c → GoalIsHeld es n → IsReadyContext es d
 ready-added es c d n e r h =
     let there : IsReadyContext es (record c { nested = c.nested ++ n ∷ [] }) = record { table = r.table; values = r.values; nested = every-more (GoalIsHeld es) c.nested n r.nested h; replies = r.replies } in
     subst (IsReadyContext es) (sym e) there
 
-pub ready-replied : (es : List Entry) (c d : Context) (a : Option CanonicalResponse) → d ≡ record c { replies = c.replies ++ a ∷ [] } → IsReadyContext es c → ResultHeld es a → IsReadyContext es d
-ready-replied es c d a e r h =
-    let there : IsReadyContext es (record c { replies = c.replies ++ a ∷ [] }) = record { table = r.table; values = r.values; nested = r.nested; replies = every-more (ResultHeld es) c.replies a r.replies h } in
-    subst (IsReadyContext es) (sym e) there
-
 -- a context that is as before stays ready
 pub ready-same : (old new : List Entry) (c d : Context) → Keeps old new → d ≡ c → IsReadyContext old c → IsReadyContext new d
 ready-same old new c d k e h = subst (IsReadyContext new) (sym e) (context-later old new k c h)
+
+-- with more room, too
+pub ready-with-room : (old new : List Entry) (c d : Context) → Keeps old new → d ≡ record c { capacity = d.capacity } → IsReadyContext old c → IsReadyContext new d
+ready-with-room old new c d k e h =
+    let later = context-later old new k c h in
+    let there : IsReadyContext new (record c { capacity = d.capacity }) = record { table = later.table; values = later.values; nested = later.nested; replies = later.replies } in
+    subst (IsReadyContext new) (sym e) there

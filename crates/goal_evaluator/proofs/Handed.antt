@@ -34,6 +34,8 @@ pub rest-nested : (a b d : Context) (ns : List NestedGoal) → b ≡ record a { 
 rest-nested a b d ns e f =
     f ∙ ap (λ (c : Context). record c { nested = ns }) e ∙ ap (λ (z : List NestedGoal). record a { nested = z }) (sym (ap (λ (c : Context). c.nested) f))
 
-pub rest-replies : (a b d : Context) (rs : List (Option CanonicalResponse)) → b ≡ record a { replies = b.replies } → d ≡ record b { replies = rs } → d ≡ record a { replies = d.replies }
-rest-replies a b d rs e f =
-    f ∙ ap (λ (c : Context). record c { replies = rs }) e ∙ ap (λ (z : List (Option CanonicalResponse)). record a { replies = z }) (sym (ap (λ (c : Context). c.replies) f))
+pub rest-replies : (a b c d : Context) (rs : List (Option CanonicalResponse)) → b ≡ record a { replies = b.replies; capacity = b.capacity } → c ≡ record b { capacity = c.capacity }
+    → d ≡ record c { replies = rs } → d ≡ record a { replies = d.replies; capacity = d.capacity }
+rest-replies a b c d rs e f g =
+    g ∙ ap (λ (x : Context). record x { replies = rs }) f ∙ ap (λ (x : Context). record x { replies = rs; capacity = c.capacity }) e
+    ∙ ap (λ (x : Context). record a { replies = x.replies; capacity = x.capacity }) (sym g)

@@ -1,7 +1,7 @@
 -- Goals and replies represent the same terms as the interner grows.
 use Rattle.std.specs.Prelude.{◌≡◌, List, [], ◌∷◌, Option, Some, None, option_map, refl}
 use Rattle.std.proofs.Common.{ap}
-use Rattle.type_terms.specs.Promised.Label.{Label, of_trait, predicate}
+use Rattle.type_terms.specs.Promised.Label.{of_trait, predicate}
 use Rattle.type_terms.specs.Promised.Trees.{Trees, none, tree, ◌+++◌}
 use Rattle.type_terms.specs.Promised.Handles.{Entry, Keeps, types}
 use Rattle.type_terms.specs.Terms.{args_lists}

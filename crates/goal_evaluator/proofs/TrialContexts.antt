@@ -12,7 +12,7 @@ pub ready-begun : (es : List Entry) (c : Context) → c.nested ≡ [] → c.repl
 ready-begun es c e f r h = record { table = r; values = h; nested = subst (NestedHeld es) (sym e) tt; replies = subst (Every (ResultHeld es)) (sym f) tt }
 
 -- one that has heard these replies
-pub ready-heard : (es : List Entry) (c d : Context) → d ≡ record c { replies = d.replies } → IsReadyContext es c → Every (ResultHeld es) d.replies → IsReadyContext es d
+pub ready-heard : (es : List Entry) (c d : Context) → d ≡ record c { replies = d.replies; capacity = d.capacity } → IsReadyContext es c → Every (ResultHeld es) d.replies → IsReadyContext es d
 ready-heard es c d e r h =
-    let there : IsReadyContext es (record c { replies = d.replies }) = record { table = r.table; values = r.values; nested = r.nested; replies = h } in
+    let there : IsReadyContext es (record c { replies = d.replies; capacity = d.capacity }) = record { table = r.table; values = r.values; nested = r.nested; replies = h } in
     subst (IsReadyContext es) (sym e) there

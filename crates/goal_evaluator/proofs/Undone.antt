@@ -1,5 +1,5 @@
 -- A probe restores the state before it.
-use Rattle.std.proofs.Common.{◌≡◌, List, [], ◌∷◌, map, refl, Option}
+use Rattle.std.proofs.Common.{◌≡◌, ℕ, List, [], ◌∷◌, map, refl, Option}
 use Rattle.std.specs.List.{AllZip}
 use Rattle.type_terms.specs.declared.kinds.GenericArgKind.{GenericArgKind}
 use Rattle.term_folds.specs.declared.predicate.Clause.{Clause}
@@ -32,11 +32,15 @@ clones-same R f (n ∷ ns) [] h = absurd h
 clones-same R f (n ∷ ns) (m ∷ ms) h = both (nested_goal n) (nested_goal m) (map nested_goal ns) (map nested_goal ms) (f n m h.0) (clones-same R f ns ms h.1)
 
 -- contexts with equal fields are equal
-pub same-context : (m m' : TypingMode) (t t' : Table) (ks ks' : List CanonicalVarKind) (vs vs' : List GenericArgKind) (ns ns' : List NestedGoal) (rs rs' : List (Option CanonicalResponse))
-    → m' ≡ m → t' ≡ t → ks' ≡ ks → vs' ≡ vs → ns' ≡ ns → rs' ≡ rs
-    → ◌≡◌ {A = Context} (record { mode = m'; table = t'; variables = ks'; values = vs'; nested = ns'; replies = rs' }) (record { mode = m; table = t; variables = ks; values = vs; nested = ns; replies = rs })
-same-context m m' t t' ks ks' vs vs' ns ns' rs rs' a b k c d e = cc
+pub same-context : (m m' : TypingMode) (t t' : Table) (ks ks' : List CanonicalVarKind) (vs vs' : List GenericArgKind) (ns ns' : List NestedGoal) (rs rs' : List (Option CanonicalResponse)) (n n' : ℕ)
+    → m' ≡ m → t' ≡ t → ks' ≡ ks → vs' ≡ vs → ns' ≡ ns → rs' ≡ rs → n' ≡ n
+    → ◌≡◌ {A = Context} (record { mode = m'; table = t'; variables = ks'; values = vs'; nested = ns'; replies = rs'; capacity = n' })
+    (record { mode = m; table = t; variables = ks; values = vs; nested = ns; replies = rs; capacity = n })
+same-context m m' t t' ks ks' vs vs' ns ns' rs rs' n n' a b k c d e f = cc
 
--- with its table and its nested goals put back, a context is as before
-pub put-back : (old new : Context) (t : Table) (ns : List NestedGoal) → ContextContinues old new → t ≡ old.table → ns ≡ old.nested → record new { table = t; nested = ns } ≡ old
-put-back old new t ns k e f = same-context old.mode new.mode old.table t old.variables new.variables old.values new.values old.nested ns old.replies new.replies k.mode e k.variables k.values f k.replies
+-- with its table and its nested goals put back, a context is as before, but for its room
+pub put-back : (old new : Context) (t : Table) (ns : List NestedGoal) → ContextContinues old new → t ≡ old.table → ns ≡ old.nested
+    → record new { table = t; nested = ns } ≡ record old { capacity = new.capacity }
+put-back old new t ns k e f =
+    same-context old.mode new.mode old.table t old.variables new.variables old.values new.values old.nested ns old.replies new.replies new.capacity new.capacity
+    k.mode e k.variables k.values f k.replies refl

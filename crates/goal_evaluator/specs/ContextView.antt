@@ -1,5 +1,5 @@
 -- The state that the fields of a context represent.
-use Rattle.std.specs.Prelude.{map}
+use Rattle.std.specs.Prelude.{map, vec_capacity}
 use Rattle.goal_evaluator.specs.Context.{Context, nested_goal}
 use Rattle.goal_evaluator.specs.declared.context.EvalCtxt.TheInside.{Inside}
 
@@ -12,4 +12,5 @@ context_of a =
       values = a.values.items;
       nested = map nested_goal a.nested_goals.items;
       replies = a.replies.items;
+      capacity = vec_capacity a.replies;
     }

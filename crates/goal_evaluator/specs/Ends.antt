@@ -15,7 +15,7 @@ use Rattle.goal_evaluator.specs.declared.error.EvalError.{EvalError}
 use Rattle.goal_evaluator.specs.declared.error.EvalError.TheVariants.{NoSolution, Fault}
 use Rattle.infer_table.specs.Values.{values_of}
 use Rattle.infer_table.specs.Responses.{AnswerTrees, ResponseHeld, answer_trees}
-use Rattle.goal_evaluator.specs.Context.{Context}
+use Rattle.goal_evaluator.specs.Context.{Context, MakesRoom}
 use Rattle.goal_evaluator.specs.Evaluating.{AskedQuestion, question_of, goals_trees, evaluation}
 use Rattle.goal_evaluator.specs.OwnAnswers.{OwnAnswerSays, answer_of}
 
@@ -49,11 +49,12 @@ module _ (mode : TypingMode) (es : List Entry) (old new : Context) where
     pub left : o.left ≡ goals_trees es new.nested
     pub rest : new ≡ record old { table = new.table; nested = new.nested; replies = [] }
 
-  -- How an evaluating call ends. Unless the result is `Ready`, the context is unchanged.
+  -- How an evaluating call ends. After an error the context is unchanged. If it asks, there is room for the reply, and nothing
+  -- else has changed.
   abbrev pub CallEnds : Run AskedQuestion (Option AnswerTrees) (Option (Rounds (evaluation mode))) → Result (EvalStep Certainty) EvalError → Type 0
   CallEnds r (Err (Fault fault)) = new ≡ old
   CallEnds r (Err NoSolution) = RunIsRefused r × (new ≡ old)
-  CallEnds r (Ok (Step.Ask input source)) = Awaits r (question_of es input source) × (new ≡ old)
+  CallEnds r (Ok (Step.Ask input source)) = Awaits r (question_of es input source) × MakesRoom old new
   CallEnds r (Ok (Step.Ready certainty)) = EndsIn (λ o more. ContextIsSettled o × (o.certainty ≡ certainty)) r
 
   -- The same with the context's response, whose certainty joins this certainty with that of the goals. It is a function of the
@@ -69,5 +70,5 @@ module _ (mode : TypingMode) (es : List Entry) (old new : Context) where
   abbrev pub AnswerEnds : Certainty → Run AskedQuestion (Option AnswerTrees) (Option (Rounds (evaluation mode))) → Result (EvalStep CanonicalResponse) EvalError → Type 0
   AnswerEnds certainty r (Err (Fault fault)) = new ≡ old
   AnswerEnds certainty r (Err NoSolution) = RunIsRefused r × (new ≡ old)
-  AnswerEnds certainty r (Ok (Step.Ask input source)) = Awaits r (question_of es input source) × (new ≡ old)
+  AnswerEnds certainty r (Ok (Step.Ask input source)) = Awaits r (question_of es input source) × MakesRoom old new
   AnswerEnds certainty r (Ok (Step.Ready answer)) = EndsIn (λ o more. ContextIsAnswered certainty answer o) r

@@ -17,7 +17,7 @@ use Rattle.goal_evaluator.specs.declared.rounds.RoundStep.TheVariants as Of
 use Rattle.goal_evaluator.specs.declared.rounds.RoundsStep.{RoundsStep}
 use Rattle.goal_evaluator.specs.declared.rounds.RoundsStep.TheVariants as OfRounds
 use Rattle.infer_table.specs.Responses.{AnswerTrees}
-use Rattle.goal_evaluator.specs.Context.{Context, NestedGoal, NestedHeld, nested_goal}
+use Rattle.goal_evaluator.specs.Context.{Context, NestedGoal, NestedHeld, MakesRoom, nested_goal}
 use Rattle.goal_evaluator.specs.Ends.{RunIsRefused, Awaits, EndsIn}
 use Rattle.goal_evaluator.specs.Evaluating.{AskedQuestion, question_of, goals_trees, replies_trees, evaluation}
 
@@ -56,8 +56,9 @@ abbrev pub RoundsHeld : List Entry → RoundsStep → Type 0
 RoundsHeld es (OfRounds.Waits input source) = GoalHeld es input.goal
 RoundsHeld es (OfRounds.Ended left certainty) = NestedHeld es (map nested_goal left.items)
 
--- unless the rounds end, the context is unchanged
-abbrev pub IsUndone : Context → Context → Result RoundsStep EvalError → Type 0
-IsUndone old new (Err error) = new ≡ old
-IsUndone old new (Ok (OfRounds.Waits input source)) = new ≡ old
-IsUndone old new (Ok (OfRounds.Ended left certainty)) = Unit {0}
+-- If the rounds end, only the context's table has changed. If they wait, there is room for the reply, and nothing else has
+-- changed. After an error the context is unchanged.
+abbrev pub LeavesContext : Context → Context → Result RoundsStep EvalError → Type 0
+LeavesContext old new (Err error) = new ≡ old
+LeavesContext old new (Ok (OfRounds.Waits input source)) = MakesRoom old new
+LeavesContext old new (Ok (OfRounds.Ended left certainty)) = new ≡ record old { table = new.table }

@@ -9,7 +9,7 @@ ghost use Rattle.infer_table.specs.Values.{values_of};
 ghost use Rattle.infer_table.specs.Raw.{IsFull, variables_from};
 ghost use Rattle.infer_table.specs.Responses.{ResponseHeld, answer_trees};
 ghost use Rattle.goal_evaluator.specs.Readings.{ResultHeld};
-ghost use Rattle.goal_evaluator.specs.Context.{Context, IsReadyContext, nested_goal};
+ghost use Rattle.goal_evaluator.specs.Context.{Context, IsReadyContext, HasRoom, MakesRoom, nested_goal};
 ghost use Rattle.goal_evaluator.specs.OwnAnswers.{SaysWhatIsKnown, OwnAnswerSaysNothing, OwnAnswerSays, known_answer};
 ghost use Rattle.infer_table.specs.Unification.{table_trees};
 ghost use Rattle.goal_evaluator.specs.declared.TheConstants.{FIXPOINT_STEP_LIMIT};
@@ -17,7 +17,7 @@ ghost use Rattle.goal_evaluator.specs.Shortages.{EvalGrewOrFull};
 ghost use Rattle.infer_table.specs.Equated.{MakesEqual, LeavesTheOlder};
 ghost use Rattle.goal_evaluator.specs.Runs.{own_rounds, own_answer};
 ghost use Rattle.goal_evaluator.specs.Ends.{CallEnds, AnswerEnds, AnswerHeld};
-ghost use Rattle.goal_evaluator.specs.Steps.{RoundsEnd, RoundsHeld, IsUndone};
+ghost use Rattle.goal_evaluator.specs.Steps.{RoundsEnd, RoundsHeld, LeavesContext};
 ghost use Rattle.goal_evaluator.specs.Probes.{TakesBoth, Returns, IsUndoable};
 
 use crate::FIXPOINT_STEP_LIMIT;
@@ -44,7 +44,7 @@ use type_terms::variance::Variance;
 pub enum EvalStep<T> {
     /// The evaluation is finished.
     Ready(T),
-    /// The evaluation needs the response to this goal. Pass it to `reply`, then make the same call again.
+    /// The evaluation needs the response to this goal, and there is room for it. Pass it to `reply`, then make the same call again.
     Ask(CanonicalInput, GoalSource),
 }
 
@@ -87,14 +87,14 @@ impl Model for EvalCtxt {
 
 impl EvalCtxt {
     /// An evaluation in this table. The input's variables are of these kinds and have these values. There are no nested goals and
-    /// no replies yet.
+    /// no replies yet, nor room for any.
     pub fn new(
         table: InferCtxt,
         mode: TypingMode,
         variables: Vec<CanonicalVarKind>,
         values: Vec<GenericArgKind>,
     ) -> EvalCtxt
-        ensures { result ≡ record { mode = mode; table = table; variables = variables.items; values = values.items; nested = []; replies = [] } }
+        ensures { result ≡ record { mode = mode; table = table; variables = variables.items; values = values.items; nested = []; replies = []; capacity = 0 } }
     {
         let alloc = *values.allocator();
         EvalCtxt {
@@ -229,14 +229,23 @@ impl EvalCtxt {
         self.eq(cx, left, right)
     }
 
-    /// Stores the response to the last nested goal after the earlier replies. `None` means that the goal has no solution. The
-    /// only fault is `Memory`. Then the context is unchanged.
-    pub fn reply(&mut self, answer: Option<CanonicalResponse>) -> Result<(), Fault>
-        ensures heard { OnOk result (self.new ≡ record self.old { replies = self.old.replies ++ answer ∷ [] }) }
+    /// Stores the response to the last nested goal after the earlier replies. `None` means that the goal has no solution. This
+    /// takes no memory: the call that asked for the response made room for it.
+    pub fn reply(&mut self, answer: Option<CanonicalResponse>)
+        requires room { HasRoom self.old }
+        ensures heard { self.new ≡ record self.old { replies = self.old.replies ++ answer ∷ [] } }
+    {
+        self.replies.push_reserved(answer);
+    }
+
+    /// Makes room for one more reply, for a caller that has it before it is asked for. The only fault is `Memory`. Then the
+    /// context is unchanged.
+    pub fn make_room(&mut self) -> Result<(), Fault>
+        ensures made { OnOk result (MakesRoom self.old self.new) }
         ensures refused { OnErr result (self.new ≡ self.old) }
         ensures fault { IfErr result (λ e. e ≡ Fault.Memory) }
     {
-        self.replies.push(answer)?;
+        self.replies.reserve(1)?;
         Ok(())
     }
 
@@ -327,7 +336,7 @@ impl EvalCtxt {
     /// without values of types or constants. The last round is one in which no response has such values. After
     /// `FIXPOINT_STEP_LIMIT` rounds the certainty is an overflow. If the result is `Ready`, the table holds what the rounds put
     /// into it, the nested goals are those that were not dropped, and the replies are used up. If the result is `Ask`, the caller
-    /// has to bring a reply, and the context is unchanged.
+    /// has to bring a reply, for which there is room. Nothing else of the context has changed.
     ///
     /// `NoSolution` is returned if a goal has no solution, `Full` only if some kind of term has reached the interner's limit, and
     /// `Memory` also if there is no number for a variable. After an error the context is unchanged.
@@ -384,16 +393,15 @@ impl EvalCtxt {
         }
     }
 
-    /// Runs the rounds with the replies so far. If they end, the table holds what they put into it. Otherwise the context is
-    /// unchanged.
+    /// Runs the rounds with the replies so far. If they end, the table holds what they put into it. If they wait, there is room
+    /// for the reply. Otherwise the context is unchanged.
     fn evaluate_nested_goals(&mut self, cx: &mut Interner) -> Result<RoundsStep, EvalError>
         requires ready { IsReadyContext cx.old.entries self.old }
         ensures ready { IsReadyContext cx.new.entries self.new }
         ensures grows { Grows self.old.table self.new.table }
         ensures terms { EvalGrewOrFull cx.old cx.new result }
         ensures held { IfOk result (λ e. RoundsHeld cx.new.entries e) }
-        ensures rest { self.new ≡ record self.old { table = self.new.table } }
-        ensures undone { IsUndone self.old self.new result }
+        ensures leaves { LeavesContext self.old self.new result }
         ensures runs { RoundsEnd self.old.mode cx.new.entries self.new.table (own_rounds cx.old.entries self.old) result }
     {
         let before = self.table.snapshot();
@@ -401,6 +409,7 @@ impl EvalCtxt {
             Ok(RoundsStep::Ended(left, certainty)) => Ok(RoundsStep::Ended(left, certainty)),
             Ok(RoundsStep::Waits(input, source)) => {
                 self.table.roll_back(before);
+                self.make_room()?;
                 Ok(RoundsStep::Waits(input, source))
             }
             Err(error) => {
@@ -442,7 +451,7 @@ impl EvalCtxt {
     }
 
     /// Calls the closure and undoes its changes of the context: the table and the nested goals are as before. Terms that it
-    /// interned remain.
+    /// interned remain, and so does the room for replies.
     ///
     /// The closure may only add to the table. It must not roll it back to an earlier snapshot. `AllocError` is returned before
     /// the closure is called. rustc: `EvalCtxt::probe` with its `enter`.
@@ -453,9 +462,9 @@ impl EvalCtxt {
     ) -> Result<T, AllocError>
         requires callable { TakesBoth F.FnOnce f self.old cx.old }
         requires undoable { IsUndoable F.FnOnce f self.old cx.old }
-        ensures returned { IfOk result (λ r. (left : Context) × Returns F.FnOnce f self.old cx.old r left cx.new) }
-        ensures restored { self.new ≡ self.old }
-        ensures refused { OnErr result (cx.new ≡ cx.old) }
+        ensures returned { IfOk result (λ r. (left : Context) × Returns F.FnOnce f self.old cx.old r left cx.new
+            × (self.new ≡ record self.old { capacity = left.capacity })) }
+        ensures refused { OnErr result ((self.new ≡ self.old) × (cx.new ≡ cx.old)) }
     {
         let place = self.table.snapshot();
         let nested_goals = self.nested_goals.clone()?;

@@ -348,7 +348,7 @@ fn add_replies(
     context: &mut EvalCtxt,
     replies: &[Option<CanonicalResponse>],
 ) -> Result<(), Fault>
-    ensures rest { OnOk result (context.new ≡ record context.old { replies = context.new.replies }) }
+    ensures rest { OnOk result (context.new ≡ record context.old { replies = context.new.replies; capacity = context.new.capacity }) }
     ensures added { OnOk result ((es : List Entry)
         → replies_trees es context.new.replies ≡ replies_trees es context.old.replies ++ replies_trees es replies.now) }
     ensures held { OnOk result ((es : List Entry) → Every (ResultHeld es) context.old.replies → Every (ResultHeld es) replies.now
@@ -357,7 +357,8 @@ fn add_replies(
 {
     for reply in replies {
         let copy = copy_of(alloc, reply)?;
-        context.reply(copy)?;
+        context.make_room()?;
+        context.reply(copy);
     }
     Ok(())
 }

@@ -22,15 +22,18 @@ loop-reply-preserved c =
     let a = c.in_ok-copy.copy in
     let lt = c.loop-reply-test.true in
     let context = c.loop-reply.context in
+    let with-room = c.make_room.new.self in
     let after = c.reply.new.self in
-    let heard : after ≡ record context { replies = context.replies ++ a ∷ [] } = c.in_ok-reply.ensures.heard in
+    let made = c.in_ok-make_room.ensures.made.1 in
+    let heard : after ≡ record with-room { replies = with-room.replies ++ a ∷ [] } = c.reply.ensures.heard in
+    let longer : after.replies ≡ context.replies ++ a ∷ [] = ap (λ (z : Context). z.replies) heard ∙ ap (λ (z : Context). z.replies ++ a ∷ []) made in
     let more : (es : List Entry) → replies_trees es after.replies ≡ replies_trees es context.replies ++ option_map (answer_trees es) a ∷ [] =
-    λ es. ap (λ (z : Context). replies_trees es z.replies) heard ∙ map-append (option_map (answer_trees es)) context.replies (a ∷ []) in
+    λ es. ap (replies_trees es) longer ∙ map-append (option_map (answer_trees es)) context.replies (a ∷ []) in
     record {
-      rest = rest-replies c.args.context.now context after (context.replies ++ a ∷ []) inv.rest heard;
+      rest = rest-replies c.args.context.now context with-room after (with-room.replies ++ a ∷ []) inv.rest made heard;
       left = λ es. ap (λ z. z ++ replies_trees es (drop (i + 1) xs)) (more es)
           ∙ one-more-there (option_map (answer_trees es)) (replies_trees es context.replies) (replies_trees es context.replies) _ (option_map (answer_trees es) a) xs i x lt c.reply-item.is refl (c.in_ok-copy.ensures.same es) (inv.left es);
-      held = λ es h g. subst (λ (z : Context). Every (ResultHeld es) z.replies) (sym heard)
+      held = λ es h g. subst (Every (ResultHeld es)) (sym longer)
           (every-more (ResultHeld es) context.replies a (inv.held es h g) (c.in_ok-copy.ensures.held es (subst (ResultHeld es) (sym c.reply-item.is) (every-at (ResultHeld es) xs i x g lt))));
     }
 

@@ -10,7 +10,7 @@ use Rattle.goal_evaluator.specs.Evaluating.{evaluation, goals_trees, replies_tre
 use Rattle.infer_table.specs.Values.{values_of, values-later}
 use Rattle.infer_table.specs.Responses.{answer_trees}
 use Rattle.goal_evaluator.specs.OwnAnswers.{OwnAnswerSays, answer_of}
-use Rattle.goal_evaluator.specs.Steps.{RoundsEnd, RoundsHeld}
+use Rattle.goal_evaluator.specs.Steps.{RoundsEnd, RoundsHeld, LeavesContext}
 use Rattle.goal_evaluator.proofs.Contexts.{context-later, nested-later, ready-same}
 use Rattle.goal_evaluator.proofs.CallEnds.{ready-settled, call-answered}
 use Rattle.goal_evaluator.proofs.LaterTrees.{goals-trees-later}
@@ -37,7 +37,7 @@ returns-in-Ok-clause-runs c =
     let held : NestedHeld es1 left = subst (RoundsHeld es1) c.in-Ended.is c.in_ok-evaluated.ensures.held in
     let keeps = c.answer.ensures.terms.grew.keeps in
     let r = run (rounds (evaluation old.mode) FIXPOINT_STEP_LIMIT (goals_trees es old.nested) (table_trees es old.table)) (replies_trees es old.replies) in
-    call-answered old.mode es2 old mid c.settle.new.self left c.evaluate_nested_goals.ensures.rest c.settle.ensures es1 keeps
+    call-answered old.mode es2 old mid c.settle.new.self left (subst (λ v. LeavesContext old mid (Ok v)) c.in-Ended.is c.in_ok-evaluated.ensures.leaves) c.settle.ensures es1 keeps
     (table-kept es1 es2 keeps mid.table c.evaluate_nested_goals.ensures.ready.table) (goals-trees-later es1 es2 keeps left held)
     (values-later es1 es2 keeps mid.values c.evaluate_nested_goals.ensures.ready.values)
     c.args.certainty c.in-Ended.of_goals c.in-Ok.response r (c.in-Ok.ensures.certainty ∙ c.and.ensures)
