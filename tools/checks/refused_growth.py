@@ -30,6 +30,8 @@ ANSWERED = """two_crates_accepted orphan_impl an_uncovered_parameter a_local_typ
 EXPLAINED = "a_later_version_may_add_num orphan_impl values_with_variables".split()
 # Tests that go through long lists of goals request memory too often, or compare a `Result`.
 LONG = ("solver::rules::", "solver::walks::", "solver::worked::")
+# Tests that refuse requests themselves, and look at whether they were.
+REFUSING = "_after_a_refused_request"
 MOST = 100000
 OF_MEMORY = re.compile(rb"^[Ee]rror: (Fault\()*(Memory|Alloc)", re.M)
 # The line of a report after the output of the test that was refused this request.
@@ -133,7 +135,7 @@ def check(tally: Tally, _: argparse.Namespace) -> None:
         explained = [partial(explained_on, refusing=refusing, name=name) for name in EXPLAINED]
         answered = [partial(program_on, refusing=refusing, name=name) for name in ANSWERED]
         side_by_side(tally, [*explained, *answered])
-        of_tests = [partial(test_on, room=room, name=name) for name in tests() if not name.startswith(LONG)]
+        of_tests = [partial(test_on, room=room, name=name) for name in tests() if not (name.startswith(LONG) or name.endswith(REFUSING))]
         requests = side_by_side(tally, of_tests)
     print(f"the tests of the layers below: {requests} requests refused in turn")
     tally.expect("the tests of the layers below", requests > 0, "no request was refused at all")
