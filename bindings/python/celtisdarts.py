@@ -25,6 +25,7 @@ from __future__ import annotations
 import argparse
 import ctypes
 import functools
+import itertools
 import os
 import subprocess
 import sys
@@ -544,7 +545,7 @@ class Asker:
         def locked() -> tuple[int, str]:
             with self.lock:
                 if not self.handle.at:
-                    raise ValueError("the session is closed")
+                    raise ValueError("the text is closed")
                 return self.room.written(call)
 
         return on_stack(self.depth, locked)
@@ -556,6 +557,14 @@ class Asker:
         if word != DONE:
             raise refusal(word)
         return name
+
+    def names(self) -> Iterator[str]:
+        """The names of all crates, that of `core` first."""
+        for number in itertools.count():
+            name = self.name(number)
+            if name is None:
+                return
+            yield name
 
     def check(self, number: int) -> str:
         word, line = self.call(lambda at, size, needed: library().celtisdarts_check(self.handle, number, at, size, needed))
@@ -584,11 +593,61 @@ class Asker:
             self.close()
 
     def __reduce__(self) -> NoReturn:
-        raise TypeError("what was read cannot be copied: make another session of the workspace")
+        raise TypeError("what was read cannot be copied")
+
+
+# Of so many crates a reading keeps what was found, if these are also no more than as often the text's length as makes so many bytes.
+KEPT_CRATES = 16
+KEPT_BYTES = 4 << 20
+
+
+class Readings:
+    """A text that is read once more only for calls that are made at once, or for more crates than one reading keeps. There are at most as many
+    readings as sessions or calls at once, and one."""
+
+    def __init__(self, text: bytes, depth: int) -> None:
+        self.text, self.depth, self.lock, self.sessions = text, depth, threading.Lock(), 0
+        self.most = min(max(1, KEPT_BYTES // max(1, len(text))), KEPT_CRATES)
+        # Those that no call uses now, the latest last, each with the crates in which it was asked.
+        self.idle: list[tuple[Asker, set[int]]] = [(Asker(text, depth), set())]
+
+    def found(self, number: int) -> Optional[tuple[Asker, set[int]]]:
+        """An idle reading for a crate: one that was asked in it, one that keeps a further crate, or the oldest if there are enough for all
+        sessions."""
+        with self.lock:
+            for is_right in (lambda crates: number in crates, lambda crates: len(crates) < self.most):
+                for place, (_, crates) in reversed(list(enumerate(self.idle))):
+                    if is_right(crates):
+                        return self.idle.pop(place)
+            if self.idle and len(self.idle) * self.most >= self.sessions:
+                return self.idle.pop(0)[0], set()
+        return None
+
+    def ask(self, number: int, call: Callable[[Asker], T]) -> T:
+        """Makes a call about a crate with a reading that no other call uses, and keeps that for later ones."""
+        asker, crates = self.found(number) or (Asker(self.text, self.depth), set())
+        crates.add(number)
+        try:
+            return call(asker)
+        finally:
+            with self.lock:
+                self.idle.append((asker, crates))
+
+    def enter(self) -> None:
+        with self.lock:
+            self.sessions += 1
+
+    def leave(self) -> None:
+        """Notes that a session is closed: no more readings stay than there are sessions, and one."""
+        with self.lock:
+            self.sessions -= 1
+            excess = max(0, len(self.idle) - max(1, self.sessions))
+            del self.idle[:excess]
 
 
 class Workspace:
-    """A text of crates that was read, to be asked to a depth from 1 to 255. It holds the text and no more, so there is nothing to close.
+    """A text of crates that was read, to be asked to a depth from 1 to 255. Its sessions share what was read and found, which goes with the last
+    of them and the workspace.
 
     Raises TextFault, with the text's first faulty line, OutOfMemory, and ValueError where the depth is another. A call runs on the caller's
     thread if the stack of that is large enough, 1.8 MiB at depth 128. Else it runs on another thread, with 8 MiB, of which each thread that
@@ -597,10 +656,8 @@ class Workspace:
 
     def __init__(self, text: Union[str, bytes], depth: int = DEFAULT_DEPTH) -> None:
         self.text, self.depth = to_bytes(text), as_depth(depth)
-        asker = Asker(self.text, self.depth)
-        self.all_crates: list[str] = []
-        while (name := asker.name(len(self.all_crates))) is not None:
-            self.all_crates.append(name)
+        self.readings = Readings(self.text, self.depth)
+        self.all_crates: list[str] = self.readings.ask(0, lambda asker: list(asker.names()))
 
     @property
     def crates(self) -> list[str]:
@@ -608,7 +665,7 @@ class Workspace:
         return self.all_crates[1:]
 
     def session(self, name: str) -> Session:
-        """A session for a crate of the text, or for `core`. The text is read again for it. Raises NoSuchCrate and OutOfMemory."""
+        """A session for a crate of the text, or for `core`. Nothing is read for it. Raises NoSuchCrate."""
         if not isinstance(name, str):
             raise TypeError(f"the name of a crate is str, and not {type(name).__name__}")
         if name not in self.all_crates:
@@ -617,24 +674,43 @@ class Workspace:
 
 
 class Session:
-    """Asks in one crate of a text. What the crate sees, and what searches have found, is kept for later calls.
+    """Asks in one crate of a text. What the crate sees, and what searches have found, is kept for later calls, also for those of the workspace's
+    other sessions.
 
-    It is kept while the searches have started at most 65,536 frames, one for each goal that was new; 64 bytes of a question count as a frame.
-    Then it is dropped, and the next call lowers again what the crate sees. So it is after OutOfMemory and TableFull.
+    A reading of the text keeps it for 16 crates, or for as many as 4 MiB hold the text, while the searches have started at most 65,536 frames, one
+    for each goal that was new; 64 bytes of a question count as a frame. Then it is dropped, and the next call lowers again what the crate sees. So
+    it is after OutOfMemory and TableFull.
 
-    After any call, one that raised an error too, it can be asked again, and answers as before. Threads may share it: one call is made at a
-    time. `close`, or the end of a `with` block, lets its memory go at once; a call behind that raises ValueError. A copy of it shares what
-    was read.
+    After any call, one that raised an error too, it can be asked again, and answers as before. Threads may share it, and calls of several
+    threads are made side by side. `close`, or the end of a `with` block, ends it; a call behind that raises ValueError. A copy of it is another
+    session of the workspace.
     """
 
     def __init__(self, workspace: Workspace, name: str) -> None:
         self.crate_name = name
         self.number = workspace.all_crates.index(name)
-        self.asker = Asker(workspace.text, workspace.depth)
+        self.readings: Optional[Readings] = workspace.readings
+        workspace.readings.enter()
 
     def close(self) -> None:
-        """Lets what was read go. Nothing can be asked behind it, and it may be called again."""
-        self.asker.close()
+        """Ends the session. Nothing can be asked behind it, and it may be called again."""
+        readings, self.readings = self.readings, None
+        if readings:
+            readings.leave()
+
+    def __del__(self) -> None:
+        if hasattr(self, "readings"):
+            self.close()
+
+    def __copy__(self) -> Session:
+        other = Session.__new__(Session)
+        other.__dict__.update(self.__dict__)
+        if other.readings:
+            other.readings.enter()
+        return other
+
+    def __reduce__(self) -> NoReturn:
+        raise TypeError("what was read cannot be written: make another session of the workspace")
 
     def __enter__(self) -> Session:
         return self
@@ -642,9 +718,15 @@ class Session:
     def __exit__(self, kind: Optional[type[BaseException]], error: Optional[BaseException], trace: Optional[TracebackType]) -> None:
         self.close()
 
+    def asked(self, call: Callable[[Asker], str]) -> str:
+        readings = self.readings
+        if not readings:
+            raise ValueError("the session is closed")
+        return readings.ask(self.number, call)
+
     def check_crate(self) -> Verdict:
         """Whether the crate is coherent with those that it uses. Raises OutOfMemory and TableFull."""
-        return read_line(self.asker.check(self.number)).answer  # type: ignore[return-value]
+        return read_line(self.asked(lambda asker: asker.check(self.number))).answer  # type: ignore[return-value]
 
     def prove(self, question: str) -> ProveAnswer:
         """Whether a reference has a proof by the rules that the crate sees.
@@ -662,7 +744,8 @@ class Session:
     def ask(self, line: Union[str, bytes]) -> Union[ProveAnswer, RefuteAnswer]:
         """The answer to a whole query line, which may ask in another crate of the text: what the program `celtisdarts` answers last to the
         text with this line behind it. Raises what `prove` raises, and NotAQuery."""
-        return read_line(self.asker.ask(to_line(line))).answer  # type: ignore[return-value]
+        asked = to_line(line)
+        return read_line(self.asked(lambda asker: asker.ask(asked))).answer  # type: ignore[return-value]
 
 
 def main(words: Sequence[str]) -> None:

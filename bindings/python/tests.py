@@ -213,19 +213,38 @@ class Calls(unittest.TestCase):
         self.assertEqual(workspace.session("a").prove("u8: Show"), Yes({}))
 
     def test_a_copy_shares_what_was_read(self) -> None:
-        session = Workspace(TEXT).session("a")
-        other = copy.copy(session)
-        self.assertIs(other.asker, session.asker)
+        session, asker = Workspace(TEXT).session("a"), Asker(TEXT.encode(), 8)
+        other, further = copy.copy(session), copy.copy(session)
+        self.assertIs(other.readings, session.readings)
         for refused in (copy.copy, copy.deepcopy, pickle.dumps):
             with self.assertRaises(TypeError):
-                refused(session.asker)
+                refused(asker)
         for refused in (copy.deepcopy, pickle.dumps):
             with self.assertRaises(TypeError):
                 refused(session)
+        further.close()
         del session
         self.assertEqual(other.prove("u8: Show"), Yes({}))
-        asker = Asker(TEXT.encode(), 8)
+        with self.assertRaisesRegex(ValueError, "closed"):
+            copy.copy(further).check_crate()
         del asker, other
+
+    def test_sessions_share_what_was_read(self) -> None:
+        names = [f"c{number}" for number in range(40)]
+        workspace = Workspace("".join(f"crate {name}\ntrait T{name}\nimpl T{name} for u8\n" for name in names))
+        for name in names:  # one session at a time
+            with workspace.session(name) as session:
+                self.assertEqual(session.check_crate(), Accepted())
+        self.assertEqual(len(workspace.readings.idle), 1)
+        sessions = [workspace.session(name) for name in names]
+        for _ in range(3):
+            for name, session in zip(names, sessions):
+                answers = session.prove(f"u8: T{name}"), session.prove(f"bool: T{name}")
+                self.assertEqual(answers, (Yes({}), Unproved()))
+        self.assertEqual(len(workspace.readings.idle), 3)  # 16 crates each
+        for session in sessions[1:]:
+            session.close()
+        self.assertEqual((len(workspace.readings.idle), sessions[0].refute("u8: Tc0")), (1, Open()))
 
     def test_a_thread_with_a_small_stack_keeps_one_thread(self) -> None:
         session, before, kept = Workspace(TEXT, 255).session("a"), threading.active_count(), []

@@ -11,7 +11,7 @@ impl<T> Show for V<T> where T: Show
 
 fn main() -> Result<(), Error> {
     let workspace = Workspace::parse(TEXT, Depth::default())?;
-    let mut session = workspace.session("a")?;
+    let session = workspace.session("a")?;
     println!("crate a: {}", session.check_crate()?);
     for question in ["V<u8>: Show", "V<bool>: Show", "fn(u8): Fn<?x>, ?x: Clone"] {
         println!("{question}: {}", session.prove(question)?);

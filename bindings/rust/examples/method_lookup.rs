@@ -137,7 +137,7 @@ struct Candidate {
 }
 
 /// The value of `?t` in a bound that holds.
-fn value(session: &mut Session, bound: &str) -> Result<Option<String>, Error> {
+fn value(session: &Session, bound: &str) -> Result<Option<String>, Error> {
     match session.prove(bound)? {
         ProveAnswer::Yes(values) => {
             let found = values.into_iter().find(|it| it.variable == "t");
@@ -148,7 +148,7 @@ fn value(session: &mut Session, bound: &str) -> Result<Option<String>, Error> {
 }
 
 /// The types that a call looks at. None if there are too many.
-fn steps(session: &mut Session, receiver: &str) -> Result<Option<Vec<String>>, Error> {
+fn steps(session: &Session, receiver: &str) -> Result<Option<Vec<String>>, Error> {
     let mut steps = Vec::new();
     let mut last = receiver.to_string();
     while let Some(target) = value(session, &format!("{last}: Deref<?t>"))? {
@@ -165,7 +165,7 @@ fn steps(session: &mut Session, receiver: &str) -> Result<Option<Vec<String>>, E
 }
 
 /// The traits whose methods of that name take a receiver of that type.
-fn candidates(session: &mut Session, taken: &str, name: &str) -> Result<Vec<Candidate>, Error> {
+fn candidates(session: &Session, taken: &str, name: &str) -> Result<Vec<Candidate>, Error> {
     let pointee = taken.strip_prefix('&').filter(|it| !it.starts_with("mut "));
     let mut found = Vec::new();
     for (_, takes, of) in METHODS.iter().filter(|it| it.0 == name) {
@@ -190,7 +190,7 @@ fn candidates(session: &mut Session, taken: &str, name: &str) -> Result<Vec<Cand
     Ok(found)
 }
 
-fn look_up(session: &mut Session, receiver: &str, name: &str) -> Result<Lookup, Error> {
+fn look_up(session: &Session, receiver: &str, name: &str) -> Result<Lookup, Error> {
     let Some(steps) = steps(session, receiver)? else {
         return Ok(Lookup::TooManySteps);
     };
@@ -230,9 +230,9 @@ impl fmt::Display for Lookup {
 }
 
 fn main() -> Result<(), Error> {
-    let mut session = Workspace::parse(TEXT, Depth::default())?.session("app")?;
+    let session = Workspace::parse(TEXT, Depth::default())?.session("app")?;
     for (receiver, name) in CALLS {
-        match look_up(&mut session, receiver, name) {
+        match look_up(&session, receiver, name) {
             Ok(found) => println!("{receiver}.{name}(): {found}"),
             Err(error) => println!("{receiver}.{name}(): {error}"),
         }

@@ -26,7 +26,7 @@ fn main() -> Result<(), Box<dyn Error>> {
         sessions.insert(name, workspace.session(name)?);
     }
     let begin = Instant::now();
-    for session in sessions.values_mut() {
+    for session in sessions.values() {
         session.check_crate()?;
     }
     println!("checked: {:?}", begin.elapsed());
@@ -38,10 +38,7 @@ fn main() -> Result<(), Box<dyn Error>> {
     for _ in 0..times {
         let begin = Instant::now();
         for (name, line) in &queries {
-            sessions
-                .get_mut(name)
-                .ok_or("a query of no crate")?
-                .ask(line)?;
+            sessions.get(name).ok_or("a query of no crate")?.ask(line)?;
         }
         let elapsed = begin.elapsed();
         println!(

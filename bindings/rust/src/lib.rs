@@ -11,8 +11,8 @@
 //! The library itself is in the package `celtisdarts-sys`, for Linux on x86-64 with glibc. That it has the version of the calls that are declared
 //! there is looked at before the first call, which panics if not. No other call panics.
 //!
-//! A [`Session`] is `Send`, and asks by `&mut`: one call is made at a time. That what it holds may move to another thread is proved, and the
-//! library has no data that threads share.
+//! Threads may share a [`Workspace`] and a [`Session`]. What the library holds for one call is not used by another at the same time. That it may
+//! move to another thread is proved, and the library has no data that threads share.
 #![deny(missing_docs, unsafe_code)]
 #![warn(clippy::missing_errors_doc)]
 

@@ -6,15 +6,17 @@ use crate::depth::Depth;
 use crate::error::Error;
 use crate::reading;
 use std::fmt;
-use std::sync::{Arc, Mutex};
+use std::sync::{Arc, Mutex, MutexGuard, PoisonError};
 
 /// How long a buffer for an answer is at first. A longer answer is asked for once more, in a longer one.
 const FIRST_ROOM: usize = 1024;
 
 /// A text of crates that was read: its first fault, if it had one, was told.
 ///
-/// Its language is described in `docs/FORMAT.md`. It holds the text and no more, so it may be shared by threads, and a clone shares it; who asks
-/// makes a [`Session`].
+/// Its language is described in `docs/FORMAT.md`. It may be shared by threads, and a clone shares it; who asks makes a [`Session`].
+///
+/// Its sessions share what was read and found. The text is read once more only for calls that several threads make at once, or if there are
+/// sessions for more crates than one reading keeps ([`Session`]). There are at most as many readings as sessions or calls at once.
 ///
 /// ```
 /// use celtisdarts::{Depth, Workspace};
@@ -28,13 +30,112 @@ pub struct Workspace {
     read: Arc<Read>,
 }
 
+/// Of so many crates a reading keeps what was found, if these are also no more than as often the text's length as makes so many bytes.
+const KEPT_CRATES: usize = 16;
+const KEPT_BYTES: usize = 4 << 20;
+
 /// A text, and what was found in it.
-#[derive(Debug, PartialEq, Eq)]
 struct Read {
     text: Box<[u8]>,
     depth: Depth,
     /// The names of the crates, that of `core` first.
     crates: Vec<String>,
+    readings: Mutex<Readings>,
+}
+
+/// The readings of a text.
+struct Readings {
+    /// Those that no call uses now, the latest last.
+    idle: Vec<Reading>,
+    /// How many sessions there are.
+    sessions: usize,
+}
+
+/// A reading of a text.
+struct Reading {
+    asker: Asker,
+    /// The crates in which it was asked, by their places.
+    crates: Vec<usize>,
+}
+
+impl Read {
+    /// Of how many crates a reading keeps what was found.
+    fn most_crates(&self) -> usize {
+        (KEPT_BYTES / self.text.len().max(1)).clamp(1, KEPT_CRATES)
+    }
+
+    fn readings(&self) -> MutexGuard<'_, Readings> {
+        // (What it guards is whole at any time.)
+        self.readings.lock().unwrap_or_else(PoisonError::into_inner)
+    }
+
+    /// An idle reading for a crate: one that was asked in it, one that keeps a further crate, or the oldest if there are enough for all sessions.
+    fn idle(&self, number: usize) -> Option<Reading> {
+        let mut readings = self.readings();
+        let most = self.most_crates();
+        let is_enough = readings.idle.len() * most >= readings.sessions;
+        let idle = &mut readings.idle;
+        let place = idle
+            .iter()
+            .rposition(|it| it.crates.contains(&number))
+            .or_else(|| idle.iter().rposition(|it| it.crates.len() < most));
+        match place {
+            Some(place) => Some(idle.remove(place)),
+            None if is_enough && !idle.is_empty() => Some(Reading {
+                crates: Vec::new(),
+                ..idle.remove(0)
+            }),
+            None => None,
+        }
+    }
+
+    /// Makes a call about a crate with a reading that no other call uses, and keeps that for later ones.
+    fn ask<T>(
+        &self,
+        number: usize,
+        call: impl FnOnce(&mut Asker) -> Result<T, Error>,
+    ) -> Result<T, Error> {
+        let mut reading = match self.idle(number) {
+            Some(reading) => reading,
+            None => Reading {
+                asker: Asker::read(&self.text, self.depth.levels())?,
+                crates: Vec::new(),
+            },
+        };
+        if !reading.crates.contains(&number) {
+            reading.crates.push(number);
+        }
+        let answer = call(&mut reading.asker);
+        self.readings().idle.push(reading);
+        answer
+    }
+
+    /// Notes that a session is gone: no more readings stay than there are sessions, and one.
+    fn leave(&self) {
+        let mut readings = self.readings();
+        readings.sessions -= 1;
+        let most = readings.sessions.max(1);
+        let excess = readings.idle.len().saturating_sub(most);
+        readings.idle.drain(..excess);
+    }
+}
+
+impl PartialEq for Read {
+    fn eq(&self, other: &Read) -> bool {
+        self.text == other.text && self.depth == other.depth
+    }
+}
+
+impl Eq for Read {}
+
+impl fmt::Debug for Read {
+    fn fmt(&self, f: &mut fmt::Formatter<'_>) -> fmt::Result {
+        f.debug_struct("Read")
+            .field("text", &self.text)
+            .field("depth", &self.depth)
+            .field("crates", &self.crates)
+            .finish_non_exhaustive()
+    }
 }
 
 impl Workspace {
@@ -46,11 +147,18 @@ impl Workspace {
     pub fn parse(text: impl AsRef<[u8]>, depth: Depth) -> Result<Workspace, Error> {
         let text: Box<[u8]> = text.as_ref().into();
         let read = depth.with_stack(move || {
-            let crates = crates(&mut Asker::read(&text, depth.levels())?)?;
+            let mut asker = Asker::read(&text, depth.levels())?;
             Ok(Read {
+                crates: crates(&mut asker)?,
                 text,
                 depth,
-                crates,
+                readings: Mutex::new(Readings {
+                    idle: vec![Reading {
+                        asker,
+                        crates: Vec::new(),
+                    }],
+                    sessions: 0,
+                }),
             })
         })?;
         Ok(Workspace {
@@ -68,12 +176,12 @@ impl Workspace {
         self.read.depth
     }
 
-    /// A session for a crate of the text, or for `core`. The text is read again for it. The session owns what it needs: it may stand beside the
-    /// workspace in a struct, or stay when that is gone.
+    /// A session for a crate of the text, or for `core`. It owns what it needs: it may stand beside the workspace in a struct, or stay when that
+    /// is gone. Nothing is read for it.
     ///
     /// # Errors
     ///
-    /// [`Error::NoSuchCrate`] or [`Error::Memory`].
+    /// [`Error::NoSuchCrate`].
     pub fn session(&self, name: &str) -> Result<Session, Error> {
         let number = self
             .read
@@ -81,15 +189,8 @@ impl Workspace {
             .iter()
             .position(|it| it == name)
             .ok_or(Error::NoSuchCrate)?;
-        let read = Arc::clone(&self.read);
-        let open = self.depth().with_stack(move || {
-            Ok(Open {
-                asker: Asker::read(&read.text, read.depth.levels())?,
-                buffer: Vec::with_capacity(FIRST_ROOM),
-            })
-        })?;
+        self.read.readings().sessions += 1;
         Ok(Session {
-            open: Arc::new(Mutex::new(open)),
             workspace: self.clone(),
             number,
         })
@@ -120,26 +221,22 @@ fn without_end(line: &str) -> &str {
     line.strip_suffix('\n').unwrap_or(line)
 }
 
-/// What a call of a session needs, on whatever thread it is made.
-struct Open {
-    asker: Asker,
-    buffer: Vec<u8>,
-}
-
-/// Asks in one crate of a text. What the crate sees, and what searches have found, is kept for later calls.
+/// Asks in one crate of a text. What the crate sees, and what searches have found, is kept for later calls, also for those of the workspace's
+/// other sessions.
 ///
-/// It is kept while the searches have started at most 65,536 frames, one for each goal that was new; 64 bytes of a question count as a frame.
-/// Then it is dropped, and the next call lowers again what the crate sees. So it is after [`Error::Memory`] and [`Error::Full`].
+/// A reading of the text keeps it for 16 crates, or for as many as 4 MiB hold the text, while the searches have started at most 65,536 frames, one
+/// for each goal that was new; 64 bytes of a question count as a frame. Then it is dropped, and the next call lowers again what the crate sees. So
+/// it is after [`Error::Memory`] and [`Error::Full`].
 ///
-/// After any call, one that ended with an error too, it can be asked again, and answers as before. It may be moved to another thread. One
-/// call is made at a time.
+/// After any call, one that ended with an error too, it can be asked again, and answers as before. Threads may share it, and calls of several
+/// threads are made side by side.
 ///
 /// ```
 /// use celtisdarts::{Depth, ProveAnswer, RefuteAnswer, Verdict, Workspace};
 ///
 /// let text = "crate base\ntrait Show\nimpl Show for u8\ncrate a uses base\nstruct V<T>(T)\nimpl<T> Show for V<T> where T: Show\n";
 /// let workspace = Workspace::parse(text, Depth::default())?;
-/// let mut session = workspace.session("a")?;
+/// let session = workspace.session("a")?;
 /// assert_eq!(session.check_crate()?, Verdict::Accepted);
 /// assert_eq!(session.prove("V<V<u8>>: Show")?, ProveAnswer::Yes(vec![]));
 /// assert_eq!(session.prove("V<bool>: Show")?, ProveAnswer::Unproved);
@@ -148,8 +245,6 @@ struct Open {
 /// # Ok::<(), celtisdarts::Error>(())
 /// ```
 pub struct Session {
-    /// Shared with the thread that makes a call, and with nobody else.
-    open: Arc<Mutex<Open>>,
     workspace: Workspace,
     /// The crate's place among those of the text.
     number: usize,
@@ -168,14 +263,14 @@ impl Session {
 
     /// Makes a call of the library, on a stack that is large enough, and reads the line that it writes.
     fn call(
-        &mut self,
+        &self,
         call: impl FnOnce(&mut Asker, &mut Vec<u8>) -> Result<(), Error> + Send + 'static,
     ) -> Result<Line, Error> {
-        let open = Arc::clone(&self.open);
+        let (read, number) = (Arc::clone(&self.workspace.read), self.number);
         self.workspace.depth().with_stack(move || {
-            let Open { asker, buffer } = &mut *open.lock().expect("no call panics");
-            call(asker, buffer)?;
-            Ok(reading::line(ascii(buffer).trim_end()).expect("a line of answers"))
+            let mut buffer = Vec::with_capacity(FIRST_ROOM);
+            read.ask(number, |asker| call(asker, &mut buffer))?;
+            Ok(reading::line(ascii(&buffer).trim_end()).expect("a line of answers"))
         })
     }
 
@@ -184,7 +279,7 @@ impl Session {
     /// # Errors
     ///
     /// [`Error::Memory`] or [`Error::Full`].
-    pub fn check_crate(&mut self) -> Result<Verdict, Error> {
+    pub fn check_crate(&self) -> Result<Verdict, Error> {
         let number = self.number as u32;
         match self.call(move |asker, buffer| asker.check(number, buffer))? {
             Line::Crate(_, verdict) => Ok(verdict),
@@ -199,7 +294,7 @@ impl Session {
     /// # Errors
     ///
     /// [`Error::Question`] where that is faulty, [`Error::SeveralLines`], [`Error::TooLong`], [`Error::Memory`] or [`Error::Full`].
-    pub fn prove(&mut self, question: &str) -> Result<ProveAnswer, Error> {
+    pub fn prove(&self, question: &str) -> Result<ProveAnswer, Error> {
         match self.ask(&format!("prove in {} {question}", self.crate_name()))? {
             Answer::Prove(answer) => Ok(answer),
             Answer::Refute(_) => unreachable!("the line begins with `prove`"),
@@ -212,7 +307,7 @@ impl Session {
     /// # Errors
     ///
     /// Those of [`Session::prove`].
-    pub fn refute(&mut self, question: &str) -> Result<RefuteAnswer, Error> {
+    pub fn refute(&self, question: &str) -> Result<RefuteAnswer, Error> {
         match self.ask(&format!("refute in {} {question}", self.crate_name()))? {
             Answer::Refute(answer) => Ok(answer),
             Answer::Prove(_) => unreachable!("the line begins with `refute`"),
@@ -226,12 +321,18 @@ impl Session {
     /// # Errors
     ///
     /// Those of [`Session::prove`], and [`Error::NotAQuery`].
-    pub fn ask(&mut self, line: &str) -> Result<Answer, Error> {
+    pub fn ask(&self, line: &str) -> Result<Answer, Error> {
         let line = without_end(line).to_string();
         match self.call(move |asker, buffer| asker.ask(line.as_bytes(), buffer))? {
             Line::Query(_, answer) => Ok(answer),
             _ => unreachable!("the line of a query"),
         }
+    }
+}
+
+impl Drop for Session {
+    fn drop(&mut self) {
+        self.workspace.read.leave();
     }
 }
 

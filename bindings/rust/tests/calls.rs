@@ -21,7 +21,7 @@ fn text_fault(text: &str) -> (u32, u8) {
     }
 }
 
-fn question_fault(session: &mut Session, question: &str) -> u8 {
+fn question_fault(session: &Session, question: &str) -> u8 {
     match session.prove(question) {
         Err(Error::Question(kind)) => kind.number(),
         other => panic!("{other:?}"),
@@ -60,7 +60,7 @@ fn the_empty_text_has_core_alone() {
     let workspace = workspace("");
     assert!(workspace.crates().is_empty());
     assert_eq!(workspace.session("a").unwrap_err(), Error::NoSuchCrate);
-    let mut core = workspace.session("core").unwrap();
+    let core = workspace.session("core").unwrap();
     assert_eq!(core.check_crate(), Ok(Verdict::Accepted));
     assert_eq!(core.prove("u8: Copy"), Ok(ProveAnswer::Yes(vec![])));
     assert_eq!(run("", Depth::default()).unwrap().text(), "");
@@ -69,12 +69,12 @@ fn the_empty_text_has_core_alone() {
 #[test]
 fn a_question_with_a_fault_changes_nothing() {
     let workspace = workspace(TEXT);
-    let mut session = workspace.session("a").unwrap();
+    let session = workspace.session("a").unwrap();
     for _ in 0..3 {
-        assert_eq!(question_fault(&mut session, ""), 2);
-        assert_eq!(question_fault(&mut session, "W: Show"), 5);
-        assert_eq!(question_fault(&mut session, "V<u8, u8>: Show"), 7);
-        assert_eq!(question_fault(&mut session, "\u{e9}: Show"), 1);
+        assert_eq!(question_fault(&session, ""), 2);
+        assert_eq!(question_fault(&session, "W: Show"), 5);
+        assert_eq!(question_fault(&session, "V<u8, u8>: Show"), 7);
+        assert_eq!(question_fault(&session, "\u{e9}: Show"), 1);
         assert_eq!(
             session.refute("<T> T: Show").map_err(|it| it.to_string()),
             Err("the question has fault 14: parameters in a refute line".into())
@@ -127,7 +127,7 @@ fn an_undecided_question_tells_what_is_known() {
     let workspace = workspace(&format!(
         "crate a\nstruct V<T>\n{shows}trait Conv<T>\nimpl<T> Conv<V<T>> for u8 where T: Show\n"
     ));
-    let mut session = workspace.session("a").unwrap();
+    let session = workspace.session("a").unwrap();
     let known = session.prove("u8: Conv<?x>").unwrap();
     assert_eq!(known.to_string(), "maybe ?x = V<?1>");
     assert!(matches!(known, ProveAnswer::Maybe(values) if values.len() == 1));
@@ -139,7 +139,7 @@ fn an_undecided_question_tells_what_is_known() {
 fn a_session_answers_lines_of_other_crates() {
     let workspace = workspace(TEXT);
     assert_eq!(workspace.crates(), ["base", "a"]);
-    let mut session = workspace.session("a").unwrap();
+    let session = workspace.session("a").unwrap();
     for _ in 0..3 {
         assert_eq!(
             session.ask("prove in base u8: Show").unwrap().to_string(),
@@ -208,7 +208,7 @@ fn answers_may_be_longer_than_the_first_buffer() {
     let inside = format!("({})", [name.as_str(); 12].join(", "));
     let text = format!("crate a\nstruct {name}\nstruct P<T>(T)\ntrait Conv<T>\nimpl Conv<({inside}, {inside}, {inside})> for u8\n");
     let workspace = workspace(&text);
-    let mut session = workspace.session("a").unwrap();
+    let session = workspace.session("a").unwrap();
     let wanted = format!("yes ?x = ({inside}, {inside}, {inside})");
     assert!(wanted.len() > 2_000);
     for _ in 0..2 {
@@ -248,7 +248,7 @@ fn asks_the_deepest(depth: Depth) {
     let output = run(DEEPEST, depth).unwrap();
     assert_eq!(output.text(), "crate a: accepted\nprove 1: maybe\n");
     let workspace = Workspace::parse(DEEPEST, depth).unwrap();
-    let mut session = workspace.session("a").unwrap();
+    let session = workspace.session("a").unwrap();
     assert_eq!(session.check_crate(), Ok(Verdict::Accepted));
     assert_eq!(session.prove("E: T"), Ok(ProveAnswer::Maybe(vec![])));
 }
@@ -312,7 +312,7 @@ fn a_struct_holds_a_workspace_and_its_session() {
         let session = is_send(workspace.session("a")?);
         Ok(Checker { workspace, session })
     };
-    let mut checker = thread::spawn(made).join().unwrap().unwrap();
+    let checker = thread::spawn(made).join().unwrap().unwrap();
     assert_eq!(checker.session.crate_name(), "a");
     assert_eq!(checker.session.workspace(), &checker.workspace);
     drop(checker.workspace);
@@ -337,7 +337,7 @@ fn threads_ask_a_session_each() {
     let workspace = workspace(TEXT);
     thread::scope(|scope| {
         for number in 0..8 {
-            let mut session = workspace
+            let session = workspace
                 .session(if number % 2 == 0 { "a" } else { "base" })
                 .unwrap();
             scope.spawn(move || {
@@ -349,6 +349,50 @@ fn threads_ask_a_session_each() {
             });
         }
     });
+}
+
+#[test]
+fn threads_share_a_session() {
+    let session = workspace(TEXT).session("a").unwrap();
+    thread::scope(|scope| {
+        for _ in 0..8 {
+            scope.spawn(|| {
+                for _ in 0..100 {
+                    assert_eq!(session.prove("u8: Show"), Ok(ProveAnswer::Yes(vec![])));
+                    assert_eq!(session.prove("bool: Show"), Ok(ProveAnswer::Unproved));
+                }
+            });
+        }
+    });
+}
+
+/// Text with 40 crates, each with a trait of its own that `u8` has, and nothing else.
+fn many_crates() -> String {
+    (0..40)
+        .map(|it| format!("crate c{it}\ntrait T{it}\nimpl T{it} for u8\n"))
+        .collect()
+}
+
+#[test]
+fn sessions_of_many_crates_answer_in_turn() {
+    let workspace = workspace(&many_crates());
+    let mut sessions: Vec<_> = workspace
+        .crates()
+        .iter()
+        .map(|name| workspace.session(name).unwrap())
+        .collect();
+    for _ in 0..3 {
+        for (number, session) in sessions.iter().enumerate() {
+            let (own, other) = (format!("u8: T{number}"), format!("bool: T{number}"));
+            assert_eq!(session.prove(&own), Ok(ProveAnswer::Yes(vec![])));
+            assert_eq!(session.prove(&other), Ok(ProveAnswer::Unproved));
+        }
+    }
+    sessions.truncate(1);
+    assert_eq!(sessions[0].check_crate(), Ok(Verdict::Accepted));
+    drop(sessions);
+    let last = workspace.session("c39").unwrap();
+    assert_eq!(last.refute("u8: T39"), Ok(RefuteAnswer::Open));
 }
 
 #[test]

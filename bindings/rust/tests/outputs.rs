@@ -62,7 +62,7 @@ fn session<'s>(
     sessions: &'s mut HashMap<String, Session>,
     workspace: &Workspace,
     name: &str,
-) -> &'s mut Session {
+) -> &'s Session {
     sessions
         .entry(name.to_string())
         .or_insert_with(|| workspace.session(name).unwrap())
@@ -133,7 +133,7 @@ fn queries_asked_at_run_time_have_the_answers_of_a_run() {
 fn values_are_told_by_their_variables() {
     let text = "crate a\nstruct P<T, U>(T, U)\ntrait Conv<T>\nimpl<T> Conv<(T, fn(T, u8) -> [T])> for P<T, bool>\n";
     let workspace = Workspace::parse(text, Depth::default()).unwrap();
-    let mut session = workspace.session("a").unwrap();
+    let session = workspace.session("a").unwrap();
     let Ok(Answer::Prove(answer)) = session.ask("prove in a P<?x, ?y>: Conv<(P<u8, str>, ?z)>")
     else {
         panic!("a proof");
