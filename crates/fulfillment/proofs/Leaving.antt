@@ -1,22 +1,17 @@
 -- Tables that answers to several goals leave, one after the other.
 use Rattle.std.specs.Prelude.{Contains}
-use Rattle.std.proofs.Common.{ℕ, List, subst}
-use Rattle.type_terms.specs.Promised.Handles.{Entry}
-use Rattle.type_terms.specs.Promised.Label.{Sort}
+use Rattle.std.proofs.Common.{List}
 use Rattle.infer_table.specs.Canonical.{GoalTrees}
-use Rattle.infer_table.specs.Content.{Table, content}
-use Rattle.infer_table.specs.Covers.{AreKnown, IsOfKnown}
+use Rattle.infer_table.specs.Content.{Table}
 use Rattle.infer_table.specs.Goals.{goal_trees}
 use Rattle.infer_table.specs.Unification.{TableTrees, table_trees}
 use Rattle.infer_table.specs.declared.certainty.TypingMode.{TypingMode}
 use Rattle.infer_table.specs.declared.goal.Goal.{Goal}
-use Rattle.infer_table.proofs.Covers.{same-unknowns}
 use Rattle.goal_frames.specs.Meanings.{HandlerMeaning}
 use Rattle.search_graph.specs.SearchState.{SearchState}
 use Rattle.solver_graph.specs.Contexts.{entries_of}
-use Rattle.solver_graph.specs.LeftTables.{IsPosedIn, AnswerLeaves, AnswersLeave}
+use Rattle.solver_graph.specs.LeftTables.{AnswerLeaves, AnswersLeave}
 use Rattle.solver_graph.specs.LeftTables as Left
-use Rattle.solver_graph.specs.Roots.{goal_in, IsPosedGoal}
 use Rattle.solver_graph.specs.Searching.{world_in}
 use Rattle.solver_graph.specs.Settling.{GoalIsRefused}
 use Rattle.solver_graph.specs.declared.context.SolverCx.{SolverCx}

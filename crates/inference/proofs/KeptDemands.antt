@@ -7,7 +7,7 @@ use Rattle.infer_table.specs.Applying.{unknowns_of}
 use Rattle.infer_table.specs.Canonical.{GoalTrees, canonical_form}
 use Rattle.infer_table.specs.Content.{AllProper}
 use Rattle.infer_table.specs.Goals.{goal_resolved}
-use Rattle.infer_table.specs.Solutions.{Assignment, Binding, IsSorted, Solves, instance, resolved}
+use Rattle.infer_table.specs.Solutions.{Assignment, Binding, Solves, instance, resolved}
 use Rattle.infer_table.specs.Unification.{TableTrees}
 use Rattle.infer_table.specs.declared.certainty.TypingMode.{TypingMode}
 use Rattle.infer_table.proofs.EquationFacts.{solved-sorted}

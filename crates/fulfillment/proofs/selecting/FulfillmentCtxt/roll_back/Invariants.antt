@@ -1,4 +1,4 @@
-use Rattle.std.proofs.Common.{◌≡◌, length, take}
+use Rattle.std.proofs.Common.{◌≡◌}
 use Rattle.fulfillment.proofs.Restoring.{restored_to}
 use Rattle.fulfillment.proofs.selecting.FulfillmentCtxt.roll_back.Given as goal
 
