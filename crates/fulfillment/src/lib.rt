@@ -6,8 +6,10 @@
 #![tactic(auto)]
 
 mod evaluating;
+mod laws;
 mod obligation;
 mod selecting;
 
+pub use laws::selecting_laws;
 pub use obligation::{Obligation, ObligationId, Standing, Stood};
 pub use selecting::{FulfillmentCtxt, ObligationsSnapshot, Selected};

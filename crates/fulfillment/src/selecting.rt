@@ -203,7 +203,8 @@ impl FulfillmentCtxt {
     /// - `Pending`: some obligation is pending, and the last round fixed nothing new.
     ///
     /// Each solution of the table is one that it had before, and none is lost at which all goals have proofs in the handler's worlds, if the
-    /// table and the goals hold the table's variables alone. The goal of an obligation that is done has a proof at each solution of the table.
+    /// table and the goals hold the table's variables alone (`selecting_laws`). The goal of an obligation that is done has a proof at
+    /// each solution of the table.
     ///
     /// Fails with `Memory` if memory is refused, or if the table has no numbers for a goal's form or for its answer. Fails with `Full` only
     /// if a table of the context is at its limit. In each case what was found stays, and the goals can be selected again.
