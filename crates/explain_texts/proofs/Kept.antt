@@ -1,5 +1,5 @@
 -- What a message keeps over several calls.
-use Rattle.std.proofs.Common.{◌≡◌, ℕ, Bool, true, false, List, [], ◌∷◌, ◌++◌, Option, Result, Ok, Err, ap, ◌∙◌}
+use Rattle.std.proofs.Common.{◌≡◌, ℕ, true, false, List, [], ◌∷◌, ◌++◌, Option, Result, Ok, Err, ap, ◌∙◌}
 use Rattle.std.specs.Prelude.{IfOk, OnOk}
 use Rattle.explain_diagnostics.specs.declared.diagnostic.Diagnostic.{Diagnostic}
 use Rattle.explain_diagnostics.specs.declared.diagnostic.ErrCode.{ErrCode}

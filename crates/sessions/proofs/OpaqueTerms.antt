@@ -1,5 +1,5 @@
 -- Terms with placeholders in the place of parameters: what is put in makes each parameter opaque, and they stay formed.
-use Rattle.std.proofs.Common.{◌≡◌, ℕ, zero, suc, ◌+◌, max, Bool, true, false, not, ◌||◌, List, [], ◌∷◌, ◌++◌, Some, refl, sym, ap, ◌∙◌, subst, arith}
+use Rattle.std.proofs.Common.{◌≡◌, ℕ, zero, suc, ◌+◌, max, Bool, true, List, [], ◌∷◌, ◌++◌, Some, refl, sym, ap, ◌∙◌, subst, arith}
 use Rattle.std.proofs.lemmas.Option.{same_Some}
 use Rattle.type_terms.specs.Promised.Label.{Label, Sort, of_type, of_const, of_lifetime, static, fn_ptr, dynamic, principal, auto_trait, predicate, param, placeholder, infer, canonical, bound, inside}
 use Rattle.type_terms.specs.Promised.Rules.{autos_with, asked}
@@ -8,7 +8,6 @@ use Rattle.type_terms.specs.Promised.Erased.{erased_reference}
 use Rattle.type_terms.specs.Promised.Trees.{Trees, none, tree, leaf, ◌+++◌, is_sort, sort_of, nth, shift, instantiate, erase}
 use Rattle.type_terms.specs.Trees.{is_no_tree, outer_binder}
 use Rattle.type_terms.specs.Promised.Worlds.{World, Reference}
-use Rattle.type_terms.proofs.TreeLaws.{append-assoc, append-none}
 use Rattle.type_terms.specs.Promised.Handles.{ArgsHeld, arg_trees}
 use Rattle.type_terms.specs.Kinds.{args_trees}
 use Rattle.type_terms.specs.Kept.{args-trees-later}

@@ -1,6 +1,6 @@
 -- What an answer to a question about several trait references says of it is right.
 use Rattle.std.specs.Global.{Vec}
-use Rattle.std.proofs.Common.{◌≡◌, ◌-◌, ℕ, true, false, List, [], ◌∷◌, ◌++◌, map, sym, ap, ◌∙◌, subst}
+use Rattle.std.proofs.Common.{◌≡◌, ◌-◌, ℕ, true, List, [], ◌∷◌, ◌++◌, map, sym, ap, ◌∙◌, subst}
 use Rattle.type_terms.specs.Made.{terms, is_made}
 use Rattle.type_terms.specs.Promised.Erased.{erased_reference}
 use Rattle.type_terms.specs.Promised.Handles.{Entry, arg_trees}
@@ -31,7 +31,7 @@ use Rattle.sessions.specs.Promised.OwnValues.{are_own, SpeakOfOwn}
 use Rattle.sessions.specs.Promised.Promises.{IsProved, view_in}
 use Rattle.sessions.specs.Promised.Subjects.{IsOfText}
 use Rattle.sessions.specs.Promised.Together.{AreProved, all_asked, filled_references}
-use Rattle.sessions.specs.ProvingTogether.{AreAnsweredBySolver, HaveAnswerValues, HaveLeftValues, IsProvedWithValues, SpeakOfOwnTerms, asked_references, goals_asking}
+use Rattle.sessions.specs.ProvingTogether.{AreAnsweredBySolver, HaveAnswerValues, IsProvedWithValues, SpeakOfOwnTerms, goals_asking}
 use Rattle.sessions.specs.Sessions.{IsSolvingOf}
 use Rattle.sessions.specs.TogetherLaws.{SeveralAreAnsweredRightly}
 use Rattle.sessions.specs.Values.{unknowns_from, unknowns_of, values_in}

@@ -1,6 +1,6 @@
 -- Trait references one of which the search refuses in coherence, over tables that answers to them leave: no closed terms for their variables
 -- give all of them proofs, by the asking crate's view alone or in a linked set with the crate.
-use Rattle.std.proofs.Common.{◌≡◌, ℕ, false, ◌||◌, List, [], ◌∷◌, map, refl, sym, ap, ◌∙◌, subst}
+use Rattle.std.proofs.Common.{◌≡◌, ℕ, false, List, [], ◌∷◌, map, refl, sym, ap, ◌∙◌, subst}
 use Rattle.type_terms.specs.Promised.Erased.{erased_world, erased_reference}
 use Rattle.type_terms.specs.Promised.Label.{Label, Sort, of_type, of_const, of_lifetime, param, placeholder, infer, canonical, bound, fn_ptr, principal}
 use Rattle.type_terms.specs.Promised.LinkedSet.{LinkedSet}

@@ -1,5 +1,5 @@
 -- Steps that were checked are a proof of the question's reference.
-use Rattle.std.proofs.Common.{◌≡◌, ◌∙◌, ℕ, zero, suc, ◌-◌, List, [], ◌∷◌, Some, map, refl, ap, sym, subst}
+use Rattle.std.proofs.Common.{◌≡◌, ◌∙◌, ℕ, zero, suc, ◌-◌, List, [], ◌∷◌, Some, map, ap, sym, subst}
 use Rattle.std.proofs.lemmas.Option.{same_Some}
 use Rattle.std.specs.List.{slice_get}
 use Rattle.type_terms.specs.Promised.Erased.{erased_reference, erased_impl}
@@ -45,7 +45,7 @@ use Rattle.sessions.proofs.ProofsAside.{proof-aside}
 use Rattle.sessions.proofs.Filled.{values-fill}
 use Rattle.sessions.proofs.ProvedQuestions.{clauses-erased, own, filled-args}
 use Rattle.sessions.proofs.GivenTexts.{text-given}
-use Rattle.sessions.proofs.QuestionTerms.{AreFixedTerms, IsOwnReference}
+use Rattle.sessions.proofs.QuestionTerms.{IsOwnReference}
 use Rattle.sessions.proofs.TextQuestions.{fixed}
 use Rattle.sessions.proofs.Refusals.{plain-erased}
 

@@ -1,5 +1,5 @@
 -- Closed values with which the trait references of a question are proved, as solutions for the solver.
-use Rattle.std.proofs.Common.{◌≡◌, ℕ, true, false, not, IsTrue, List, [], ◌∷◌, map, refl, sym, ap, ◌∙◌, subst}
+use Rattle.std.proofs.Common.{◌≡◌, ℕ, false, not, IsTrue, List, [], ◌∷◌, map, refl, sym, ap, ◌∙◌, subst}
 use Rattle.type_terms.specs.Promised.Answers.{is_open, is_closed}
 use Rattle.type_terms.specs.Promised.Erased.{erased_world, erased_reference}
 use Rattle.type_terms.specs.Promised.Label.{Sort}

@@ -19,7 +19,6 @@ use Rattle.candidate_assembly.specs.Fitting.{same_sorts, are_of_trait, is_shut, 
 use Rattle.candidate_assembly.specs.Solving.{Solving}
 use Rattle.sessions.specs.Applying.{SolversClausesApply}
 use Rattle.sessions.proofs.ClausesApply.{texts-clauses-apply}
-use Rattle.type_terms.proofs.TermBasics.{sort-self as same-sort}
 use Rattle.sessions.proofs.GivenTexts.{text-given}
 use Rattle.sessions.proofs.Fitting.{same-ones}
 

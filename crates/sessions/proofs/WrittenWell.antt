@@ -12,7 +12,7 @@ use Rattle.type_terms.specs.Promised.Erased.{erased_reference}
 use Rattle.type_terms.specs.Promised.Trees.{Trees, none, tree, erase, is_sort, some_node}
 use Rattle.type_terms.specs.Promised.Worlds.{World, Reference, ImplDecl}
 use Rattle.type_terms.proofs.ProofEntries.{map-in}
-use Rattle.type_terms.proofs.Members.{here, there, in-map}
+use Rattle.type_terms.proofs.Members.{in-map}
 use Rattle.type_terms.proofs.NoHolds.{member-each}
 use Rattle.type_terms.proofs.Walking.{left, right}
 use Rattle.type_terms.specs.Made.{terms, is_made}
@@ -25,7 +25,6 @@ use Rattle.declarations.specs.declared.items.GenericParamKind.{GenericParamKind}
 use Rattle.declarations.specs.declared.items.GenericParamKind.TheVariants as params
 use Rattle.declarations.specs.Applied.{sort_of_param}
 use Rattle.declarations.specs.Items.{Items, HeldImpl, reference_in, impl_in, written}
-use Rattle.declarations.specs.Promised.Elaboration.{Each}
 use Rattle.declarations.proofs.Elaborating.{each-in}
 use Rattle.candidate_model.specs.Candidates.{is_this_param, kind_of_param, kinds_of_params}
 use Rattle.candidate_model.specs.Declared.{is_declared_leaf, is_counted, are_terms, is_otherwise, is_unsorted}

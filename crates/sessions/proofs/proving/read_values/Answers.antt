@@ -1,4 +1,4 @@
-use Rattle.std.proofs.Common.{◌≡◌, true, false, sym, ap, ◌∙◌, List, [], ◌∷◌, inl, inr}
+use Rattle.std.proofs.Common.{true, sym, ap, ◌∙◌, List, [], ◌∷◌, inl, inr}
 use Rattle.type_terms.specs.Promised.Trees.{Trees, none, some_node}
 use Rattle.type_terms.specs.Kept.{args-held-later}
 use Rattle.type_terms.specs.Pieces.{Piece}

@@ -1,4 +1,4 @@
-use Rattle.std.proofs.Common.{◌≡◌, ap, subst}
+use Rattle.std.proofs.Common.{ap, subst}
 use Rattle.sessions.specs.LeftSessions.{IsLeftSession}
 use Rattle.sessions.specs.Promised.Subjects.{Subject}
 use Rattle.sessions.specs.declared.left_session.LeftSession.{LeftSession}

@@ -1,5 +1,3 @@
-use Rattle.std.proofs.Common.{◌≡◌, ap, sym, subst}
-use Rattle.sessions.specs.LeftSessions.{IsLeftSession}
 use Rattle.sessions.proofs.LeftSessions.{session-after}
 use Rattle.sessions.proofs.session.Session.resumed.Goals as goal
 
