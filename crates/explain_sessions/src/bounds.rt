@@ -1,7 +1,8 @@
 //! The bounds of a query as goals over one table, selected together as a session selects them for its answer.
 
-ghost use Rattle.std.specs.Prelude.{◌≡◌, ◌∷◌, IfOk, All, Any};
+ghost use Rattle.std.specs.Prelude.{◌≡◌, ◌==◌, ◌∷◌, false, not, slice_get, IfOk, All, Any};
 ghost use Rattle.std.specs.List.{AllWithin, HoldsAt};
+ghost use Rattle.std.specs.Option.{option_map_or};
 ghost use Rattle.fulfillment.specs.Obligations.{ObligationsHeld};
 ghost use Rattle.fulfillment.specs.declared.obligation.Obligation.{Obligation};
 ghost use Rattle.fulfillment.specs.declared.obligation.Standing.TheVariants.{Done};
@@ -9,6 +10,7 @@ ghost use Rattle.sessions.specs.Declarations.Applied.{TraitRefsHeld};
 ghost use Rattle.sessions.specs.InferTable.Content.{Ready};
 ghost use Rattle.sessions.specs.Proving.{SolverAdvances, SolverIsReady};
 ghost use Rattle.sessions.specs.Sessions.{SolverRests};
+ghost use Rattle.sessions.specs.TermFolds.declared.predicate.TraitRef.{TraitRef};
 ghost use Rattle.explain_traces.specs.Walking.{ReferencesHeld};
 ghost use Rattle.explain_sessions.specs.Walked.{RestsAfter, WalkHeld};
 
@@ -23,15 +25,15 @@ use sessions::solver_graph::{Search, SolverCx};
 use sessions::term_folds::predicate::TraitRef;
 use sessions::text_lowering::LoweredQuestion;
 use sessions::type_terms::Fault;
-use sessions::{all_asked, obligations_for, question_table_in, references_are_goals};
+use sessions::{Limits, all_asked, obligations_for, question_table_in, references_are_goals};
 
 /// The goals of a query's bounds under these where-clauses, and a table for the query's variables. As many answers to each goal may have
-/// values as in a session with this depth limit: one more than that.
+/// values as in a session with these limits.
 pub(crate) fn pose(
     cx: &mut SolverCx<Solver>,
     clauses: &[TraitRef],
     lowered: &LoweredQuestion,
-    depth: u32,
+    limits: Limits,
 ) -> Result<(FulfillmentCtxt, InferCtxt), Fault>
     requires ready { SolverIsReady cx.old }
     requires clauses { TraitRefsHeld cx.old.interner.entries clauses.now }
@@ -42,8 +44,7 @@ pub(crate) fn pose(
 {
     references_are_goals();
     let references = all_asked(cx.alloc, lowered)?;
-    let limit = (depth as usize).saturating_add(1);
-    let goals = obligations_for(cx.alloc, clauses, &references, limit)?;
+    let goals = obligations_for(cx.alloc, clauses, &references, limits.most_values())?;
     let table = question_table_in(cx, &lowered.unknowns)?;
     Ok((goals, table))
 }
@@ -90,7 +91,9 @@ pub(crate) fn select(
 }
 
 /// Whether the trace begins with another trait reference than this one: the table has values for its variables.
-fn is_narrowed(walk: &GoalWalk, asked: TraitRef) -> bool {
+fn is_narrowed(walk: &GoalWalk, asked: TraitRef) -> bool
+    ensures { result ≡ option_map_or (λ (first : TraitRef). not (first.args.0 == asked.args.0)) (slice_get walk.now.references.items 0) false }
+{
     match walk.references.first() {
         Some(first) => first.args != asked.args,
         None => false,

@@ -41,7 +41,7 @@ pub fn explain_question(session: &mut Session<'_>, number: u32) -> Result<BoundW
         &mut session.search,
         session.workspace,
         number,
-        session.limits.depth,
+        session.limits,
     )
 }
 
@@ -59,7 +59,7 @@ fn find_proof(session: &mut Session<'_>, number: u32, bound: usize) -> Result<Pr
         session.workspace,
         number,
         bound,
-        session.limits.depth,
+        session.limits,
     )
 }
 
@@ -102,7 +102,7 @@ pub fn explain_refutation(session: &mut Session<'_>, number: u32) -> Result<Boun
         &mut session.search,
         session.workspace,
         number,
-        session.limits.depth,
+        session.limits,
     )
 }
 

@@ -23,13 +23,13 @@ use sessions::solver_graph::{Search, SolverCx};
 use sessions::text_lowering::LoweredQuestion;
 use sessions::text_tables::Workspace;
 use sessions::type_terms::Fault;
-use sessions::{elaborate_in, lower_in};
+use sessions::{Limits, elaborate_in, lower_in};
 
 /// The goals of a `prove` query's bounds under its where-clauses with all their supertraits, and a table for its variables.
 fn pose_proof(
     cx: &mut SolverCx<Solver>,
     lowered: &LoweredQuestion,
-    depth: u32,
+    limits: Limits,
 ) -> Result<(FulfillmentCtxt, InferCtxt), Fault>
     requires ready { SolverIsReady cx.old }
     requires lowered { (q : Question) × IsLowered cx.old.interner.entries q lowered.now }
@@ -39,17 +39,17 @@ fn pose_proof(
     ensures table { IfOk result (λ posed. Ready cx.new.interner.entries posed.1) }
 {
     let clauses = elaborate_in(cx, &lowered.clauses)?;
-    pose(cx, &clauses, lowered, depth)
+    pose(cx, &clauses, lowered, limits)
 }
 
-/// Traces the bound of a `prove` query that explains why the query was not proved, or is not known, at most this deep.
+/// Traces the bound of a `prove` query that explains why the query was not proved, or is not known, at most as deep as these limits allow.
 ///
 /// Everything stays at rest, after a fault too. Fails with `Memory` if memory is refused, or with `Full` if a table is full.
 pub(crate) fn walk_question(
     search: &mut Search<Solver>,
     workspace: &Workspace,
     number: u32,
-    depth: u32,
+    limits: Limits,
 ) -> Result<BoundWalk, Fault>
     requires rest { SolverRests search.old.graph.root_depth search.old.cx search.old.graph search.old.cache }
     requires question { (q : Question) × IsQuestion workspace.now number q }
@@ -58,13 +58,13 @@ pub(crate) fn walk_question(
     ensures held { IfOk result (λ b. WalkHeld search.new.cx.interner.entries b.walk) }
 {
     let lowered = lower_in(&mut search.cx, workspace, number)?;
-    let (mut goals, mut table) = pose_proof(&mut search.cx, &lowered, depth)?;
+    let (mut goals, mut table) = pose_proof(&mut search.cx, &lowered, limits)?;
     let mode = TypingMode::PostAnalysis;
-    walk_bounds(search, &mut table, &mut goals, mode, depth)
+    walk_bounds(search, &mut table, &mut goals, mode, limits.depth)
 }
 
-/// Traces the goal of one bound of a `prove` query that was proved, with what all bounds fix of its variables, at most this deep, and finds
-/// the steps of its proof. They are not checked. Bounds count from 0.
+/// Traces the goal of one bound of a `prove` query that was proved, with what all bounds fix of its variables, at most as deep as these
+/// limits allow, and finds the steps of its proof. They are not checked. Bounds count from 0.
 ///
 /// Everything stays at rest, after a fault too. Fails with `Memory` if memory is refused, or with `Full` if a table is full.
 pub(crate) fn walk_proof(
@@ -72,7 +72,7 @@ pub(crate) fn walk_proof(
     workspace: &Workspace,
     number: u32,
     bound: usize,
-    depth: u32,
+    limits: Limits,
 ) -> Result<ProofWalk, Fault>
     requires rest { SolverRests search.old.graph.root_depth search.old.cx search.old.graph search.old.cache }
     requires question { (q : Question) × IsQuestion workspace.now number q }
@@ -82,20 +82,20 @@ pub(crate) fn walk_proof(
     ensures shown { IfOk result ShowsItsSteps }
 {
     let lowered = lower_in(&mut search.cx, workspace, number)?;
-    let (mut goals, mut table) = pose_proof(&mut search.cx, &lowered, depth)?;
+    let (mut goals, mut table) = pose_proof(&mut search.cx, &lowered, limits)?;
     let _telling = select(search, &mut table, &mut goals, TypingMode::PostAnalysis)?;
-    let walk = walk_settled_bound(search, &mut table, &goals, bound, depth)?;
+    let walk = walk_settled_bound(search, &mut table, &goals, bound, limits.depth)?;
     with_steps(&mut search.cx, &mut table, &lowered.clauses, walk)
 }
 
-/// Traces the bound of a `refute` query that explains its answer, in coherence, at most this deep.
+/// Traces the bound of a `refute` query that explains its answer, in coherence, at most as deep as these limits allow.
 ///
 /// Everything stays at rest, after a fault too. Fails with `Memory` if memory is refused, or with `Full` if a table is full.
 pub(crate) fn walk_refutation(
     search: &mut Search<Solver>,
     workspace: &Workspace,
     number: u32,
-    depth: u32,
+    limits: Limits,
 ) -> Result<BoundWalk, Fault>
     requires rest { SolverRests search.old.graph.root_depth search.old.cx search.old.graph search.old.cache }
     requires question { (q : Question) × IsQuestion workspace.now number q }
@@ -103,6 +103,7 @@ pub(crate) fn walk_refutation(
     ensures held { IfOk result (λ b. WalkHeld search.new.cx.interner.entries b.walk) }
 {
     let lowered = lower_in(&mut search.cx, workspace, number)?;
-    let (mut goals, mut table) = pose(&mut search.cx, &[], &lowered, depth)?;
-    walk_bounds(search, &mut table, &mut goals, TypingMode::Coherence, depth)
+    let (mut goals, mut table) = pose(&mut search.cx, &[], &lowered, limits)?;
+    let mode = TypingMode::Coherence;
+    walk_bounds(search, &mut table, &mut goals, mode, limits.depth)
 }

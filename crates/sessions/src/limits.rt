@@ -30,7 +30,7 @@ impl Limits {
     }
 
     /// How many answers to each trait reference of a query about several may have values: one more than the depth limit.
-    pub(crate) fn most_values(self) -> usize
+    pub fn most_values(self) -> usize
         ensures { result ≡ self.depth + 1 }
     {
         self.depth as usize + 1
