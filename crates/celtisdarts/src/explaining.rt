@@ -113,14 +113,14 @@ impl Known<'_> {
     fn question<'s>(
         &'s self,
         workspace: &'s Workspace,
+        session: &Session<'_>,
         place: usize,
-        depth: u32,
         may_run_out: bool,
     ) -> Questioned<'s> {
         Questioned {
             texts: self.texts(workspace),
             place,
-            depth,
+            depth: session.limits.depth,
             may_run_out,
             seen: &self.seen,
         }
@@ -229,13 +229,15 @@ impl<'f> Explaining<'f> {
         further_faults(self.alloc, self.text, file, first, &mut self.further)
     }
 
-    /// What is to be done with the answer of a query. What the answer took counts if it is explained.
-    fn next(&mut self, session: &Session<'_>) -> Next {
+    /// Finds what an explanation needs, and says what is to be done with the answer of a query. What it took counts if it is explained.
+    fn next(&mut self, session: &Session<'_>, workspace: &Workspace) -> Result<Next, AllocError> {
+        self.begin(workspace)?;
+        self.known.see(self.alloc, session, workspace)?;
         let next = self.spending.next();
         if let Next::Explained = next {
             self.spending.add_answer(self.frames, session.frames());
         }
-        next
+        Ok(next)
     }
 
     fn explain_judged(
@@ -267,9 +269,8 @@ impl<'f> Explaining<'f> {
         self.begin(workspace)?;
         self.known.see(self.alloc, session, workspace)?;
         let check = check_at(workspace, place);
-        let depth = session.limits.depth;
         let ran_out = may_run_out(0, session.frames());
-        let known = self.known.question(workspace, place, depth, ran_out);
+        let known = self.known.question(workspace, session, place, ran_out);
         explain_checked(self.alloc, known.texts, session, check, ran_out, known.seen)
     }
 
@@ -284,16 +285,13 @@ impl<'f> Explaining<'f> {
         requires held { AnswerValuesHeld session.old.terms answer.now }
         ensures { StaysOn session.old session.new }
     {
-        self.begin(workspace)?;
-        self.known.see(self.alloc, session, workspace)?;
-        let ran_out = may_run_out(self.frames, session.frames());
-        match self.next(session) {
+        match self.next(session, workspace)? {
             Next::Silent => Ok(None),
             Next::Told => Ok(Some(too_long(self.alloc)?)),
             Next::Explained => {
                 let place = (number as usize).saturating_sub(1);
-                let depth = session.limits.depth;
-                let question = self.known.question(workspace, place, depth, ran_out);
+                let ran_out = may_run_out(self.frames, session.frames());
+                let question = self.known.question(workspace, session, place, ran_out);
                 explain_proved(
                     self.alloc,
                     question,
@@ -316,16 +314,13 @@ impl<'f> Explaining<'f> {
         requires { (q : Question) × AsksRefutation session.old.declarations session.old.of_crate number q }
         ensures { StaysOn session.old session.new }
     {
-        self.begin(workspace)?;
-        self.known.see(self.alloc, session, workspace)?;
-        let ran_out = may_run_out(self.frames, session.frames());
-        match self.next(session) {
+        match self.next(session, workspace)? {
             Next::Silent => Ok(None),
             Next::Told => Ok(Some(too_long(self.alloc)?)),
             Next::Explained => {
                 let place = (number as usize).saturating_sub(1);
-                let depth = session.limits.depth;
-                let question = self.known.question(workspace, place, depth, ran_out);
+                let ran_out = may_run_out(self.frames, session.frames());
+                let question = self.known.question(workspace, session, place, ran_out);
                 explain_refuted(
                     self.alloc,
                     question,

@@ -37,11 +37,13 @@ pub(crate) struct Questioned<'s> {
     pub seen: &'s [ImplId],
 }
 
-/// How a `prove` query is answered, if not `yes`.
+/// How a query is answered, if not with a proof.
 #[derive(Clone, Copy)]
 enum NotProved {
     Unproved,
     Maybe,
+    Refuted,
+    Open,
 }
 
 impl<'s> Questioned<'s> {
@@ -251,6 +253,8 @@ fn tell_not_proved(
     match answer {
         NotProved::Unproved => unproved(alloc, &story, asking),
         NotProved::Maybe => unsettled(alloc, &story, asking),
+        NotProved::Refuted => refuted(alloc, &story, asking),
+        NotProved::Open => left_open(alloc, &story, asking),
     }
 }
 
@@ -308,27 +312,6 @@ pub(crate) fn explain_proved(
     Ok(Some(told))
 }
 
-/// The diagnostic for a `refute` query.
-fn tell_refutation(
-    alloc: Global,
-    question: Questioned<'_>,
-    session: &Session<'_>,
-    found: &BoundWalk,
-    claims: &Claims,
-    answer: RefuteAnswer,
-) -> Result<Diagnostic, AllocError>
-    requires walked { WalkHeld session.now.terms found.now.walk }
-    requires claims { ClaimsHold session.now found.now.walk claims.now }
-{
-    let names = question.names();
-    let story = tell(alloc, question.texts, session, &names, &found.walk, claims)?;
-    let asking = question.asking(found);
-    match answer {
-        RefuteAnswer::No => refuted(alloc, &story, asking),
-        RefuteAnswer::Open => left_open(alloc, &story, asking),
-    }
-}
-
 /// Explains the answer of a `refute` query of the session's crate. Queries count from 1. The session stays as it was, after a fault too.
 pub(crate) fn explain_refuted(
     alloc: Global,
@@ -345,6 +328,10 @@ pub(crate) fn explain_refuted(
     let found = explain_refutation(session, number)?;
     let claims = refutation_claims(session, &found.walk)?;
     spending.add_explanation(before, session.frames(), found.walk.nodes.len());
-    let told = tell_refutation(alloc, question, session, &found, &claims, answer)?;
+    let answer = match answer {
+        RefuteAnswer::No => NotProved::Refuted,
+        RefuteAnswer::Open => NotProved::Open,
+    };
+    let told = tell_not_proved(alloc, question, session, &found, &claims, answer)?;
     Ok(Some(told))
 }
