@@ -334,6 +334,7 @@ impl Infer {
         search.cx.interner.lawful();
         resolved
     }
+
     /// A snapshot of the context, to which it can be rolled back. Fails if memory is refused.
     ///
     /// rustc: `InferCtxt::start_snapshot`. rust-analyzer: `InferenceTable::snapshot`.
