@@ -29,7 +29,7 @@ ANSWERED = """two_crates_accepted orphan_impl an_uncovered_parameter a_local_typ
     a_supertrait_that_is_missing a_supertrait_that_is_there""".split()
 EXPLAINED = "a_later_version_may_add_num orphan_impl values_with_variables".split()
 # Tests that go through long lists of goals request memory too often, or compare a `Result`.
-LONG = ("solver::rules::", "solver::walks::", "solver::worked::")
+LONG = ("solver::rules::", "solver::walks::", "solver::worked::", "solver::inferring_by_lot::")
 # Tests that refuse requests themselves, and look at whether they were.
 REFUSING = "_after_a_refused_request"
 MOST = 100000
