@@ -1,0 +1,105 @@
+-- What contracts see of an inference session.
+use Rattle.std.specs.Prelude.{◌≡◌, ◌≤◌, ℕ, List, [], ◌∷◌, ◌++◌, Option, Some, None, length, slice_get, take, refl}
+use Rattle.std.specs.Coded.{Coded, code_by, coded×, coded_list}
+use Rattle.type_terms.specs.Promised.Handles.{Entry, arg_trees}
+use Rattle.type_terms.specs.Promised.Trees.{Trees, none, ◌+++◌}
+use Rattle.type_terms.specs.declared.Fault.TheVariants.{Full}
+use Rattle.type_terms.specs.declared.kinds.GenericArgKind.{GenericArgKind}
+use Rattle.type_terms.specs.contracts.kinds.GenericArgKind as args
+use Rattle.infer_table.specs.Content.{variables_of}
+use Rattle.sessions.specs.Promised.Shortages.{IsAtLimit}
+use Rattle.sessions.specs.Promised.Subjects.{Subject, StaysOn}
+use Rattle.sessions.specs.Subjects.{subject_code}
+use Rattle.inference.specs.Inference.{Demand}
+use Rattle.inference.specs.Inferring.{HasGrownFrom, IsSnapshotOf}
+use Rattle.inference.specs.contracts.context.Infer as infers
+use Rattle.inference.specs.declared.context.Infer.{Infer}
+use Rattle.session_inference.specs.Contexts.{AreTermsOver, CanInferIn, HaveNoSolutionIn, IsAskedFurtherIn}
+use Rattle.session_inference.specs.contracts.open_snapshot.OpenSnapshot as snapshots
+use Rattle.session_inference.specs.declared.error.InferenceError.{InferenceError}
+use Rattle.session_inference.specs.declared.error.InferenceError.TheVariants as error
+use Rattle.session_inference.specs.declared.open_snapshot.OpenSnapshot.{OpenSnapshot}
+use Rattle.session_inference.specs.declared.term_id.TermId.{TermId}
+
+-- What its session is about, its context, its terms by their numbers, and its open snapshots, the oldest first.
+pub record Inference : Type 0 where
+  pub subject : Subject
+  pub context : Infer
+  pub terms : List GenericArgKind
+  pub snapshots : List OpenSnapshot
+
+abbrev pub inference_code : Coded Inference
+inference_code =
+    code_by (Subject × (Infer × (List GenericArgKind × List OpenSnapshot)))
+    (coded× subject_code (coded× infers.the_row.coded (coded× (coded_list args.the_row.coded) (coded_list snapshots.the_row.coded))))
+    (λ v. (v.subject, (v.context, (v.terms, v.snapshots))))
+    (λ (s, (i, (ts, ms))). record { subject = s; context = i; terms = ts; snapshots = ms })
+    (λ _. refl)
+
+-- ---- terms
+abbrev pub trees_of_term : List Entry → Option GenericArgKind → Trees
+trees_of_term es None = none
+trees_of_term es (Some a) = arg_trees es a
+
+-- The term with this number, and the terms with these numbers, one after the other.
+abbrev pub term_numbered : Inference → TermId → Trees
+term_numbered v id = trees_of_term v.subject.terms (slice_get v.terms id.index)
+
+abbrev pub terms_numbered : Inference → List TermId → Trees
+terms_numbered v [] = none
+terms_numbered v (id ∷ ids) = term_numbered v id +++ terms_numbered v ids
+
+-- There is no term with this number.
+abbrev pub HasNoTerm : Inference → TermId → Type 0
+HasNoTerm v id = length v.terms ≤ id.index
+
+-- One term was added, with the next number, and it is this one.
+pub record HasNewTerm (v w : Inference) (t : Trees) (id : TermId) : Type 0 where
+  pub number : id.index ≡ length v.terms
+  pub term : GenericArgKind
+  pub added : w.terms ≡ v.terms ++ term ∷ []
+  pub is : arg_trees w.subject.terms term ≡ t
+
+-- ---- snapshots
+-- The snapshot is one of this context, made when so many of the terms had numbers.
+pub record IsOpenSnapshot (s : Subject) (ts : List GenericArgKind) (m : OpenSnapshot) (before : Infer) : Type 0 where
+  pub snapshot : IsSnapshotOf before m.context
+  pub can : CanInferIn s before
+  pub few : m.terms ≤ length ts
+  pub terms : AreTermsOver s.terms (variables_of before.table) (take m.terms ts)
+
+-- Each context of which there is a snapshot has grown from the one before, the first from this one, and the last one to the present.
+abbrev pub AreTakenAfter : Subject → List GenericArgKind → Infer → ℕ → List OpenSnapshot → Infer → Type 0
+AreTakenAfter s ts earlier n [] now = HasGrownFrom earlier now
+AreTakenAfter s ts earlier n (m ∷ ms) now =
+    (before : Infer) × HasGrownFrom earlier before × (n ≤ m.terms) × IsOpenSnapshot s ts m before × AreTakenAfter s ts before m.terms ms now
+
+abbrev pub AreTaken : Subject → List GenericArgKind → List OpenSnapshot → Infer → Type 0
+AreTaken s ts [] now = Unit {0}
+AreTaken s ts (m ∷ ms) now = (before : Infer) × IsOpenSnapshot s ts m before × AreTakenAfter s ts before m.terms ms now
+
+-- ---- between two calls
+-- The context can be used, each term is one over its variables, and each snapshot is one of an earlier context.
+pub record IsInferring (s : Subject) (i : Infer) (ts : List GenericArgKind) (ms : List OpenSnapshot) : Type 0 where
+  pub can : CanInferIn s i
+  pub terms : AreTermsOver s.terms (variables_of i.table) ts
+  pub snapshots : AreTaken s ts ms i
+
+-- ---- calls
+-- The call leaves the session on what it is about, adds to the context alone, and leaves all snapshots open.
+pub record InfersOn (v w : Inference) : Type 0 where
+  pub stays : StaysOn v.subject w.subject
+  pub grows : HasGrownFrom v.context w.context
+  pub snapshots : w.snapshots ≡ v.snapshots
+
+-- What the first was asked and these demands the second is faithful to.
+abbrev pub AsksFurther : List Demand → Inference → Inference → Type 0
+AsksFurther further v w = IsAskedFurtherIn further v.subject v.context w.subject w.context
+
+-- What it was asked and these demands have no solution together.
+abbrev pub HasNoSolutionWith : List Demand → Inference → Type 0
+HasNoSolutionWith further v = HaveNoSolutionIn further v.subject v.context
+
+-- The error is `Full` only if the session is at a limit.
+abbrev pub ErrorAtLimit : Inference → InferenceError → Type 0
+ErrorAtLimit v e = e ≡ error.Fault Full → IsAtLimit v.subject

@@ -1,0 +1,383 @@
+//! Inference sessions.
+
+ghost use Rattle.std.specs.Prelude.{◌≡◌, ◌∷◌, ◌++◌, ◌⊎◌, [], true, false, All, Any, Some, Ok, Err, IfOk, IfErr, IsOk, IsErr, OnOk, OnErr, length, slice_get, take, map};
+ghost use Rattle.type_terms.specs.Promised.Label.{adt, of_type, of_const, infer, value};
+ghost use Rattle.type_terms.specs.Promised.Trees.{leaf, none, tree};
+ghost use Rattle.infer_table.specs.Content.{content};
+ghost use Rattle.infer_table.specs.Solutions.{resolved};
+ghost use Rattle.fulfillment.specs.declared.obligation.Obligation.{Obligation};
+ghost use Rattle.fulfillment.specs.declared.obligation.ObligationId.{ObligationId};
+ghost use Rattle.sessions.specs.Asking.{goal_alone};
+ghost use Rattle.sessions.specs.Promised.Shortages.{SessionFullAtLimit};
+ghost use Rattle.inference.specs.Inference.{equal, proved};
+ghost use Rattle.inference.specs.Inferring.{HasGrownFrom, HasSolution, IsAsBefore, IsSnapshotOf, no_variables};
+ghost use Rattle.inference.specs.declared.context.Infer.{Infer};
+ghost use Rattle.session_inference.specs.declared.open_snapshot.OpenSnapshot.{OpenSnapshot};
+ghost use Rattle.session_inference.specs.Contexts.{DoneHaveProofs, HasOneMoreIn, HasRegistered, IsFaithfulIn, ShowsSolutionsIn};
+ghost use Rattle.session_inference.specs.Primitives.{primitive_trees};
+
+use crate::calls;
+use crate::error::InferenceError;
+use crate::making::{primitive_type, struct_type, value_constant};
+use crate::open_snapshot::OpenSnapshot;
+use crate::primitive::Primitive;
+use crate::term_id::TermId;
+use crate::terms::{equated, given, numbered, opened, term_at, terms_at};
+use fulfillment::{Obligation, ObligationId, Selected, Standing};
+use inference::Infer;
+use sessions::Session;
+use std::alloc::AllocError;
+use std::marker::Model;
+use type_terms::kinds::GenericArgKind;
+use type_terms::{AdtId, Fault, TraitId};
+
+/// A session with an inference context over its search: variables with their values, and goals that have to hold together.
+///
+/// Goals are evaluated outside coherence, by what the session's crate sees of its text. Terms have numbers, in the order in which calls give
+/// them. A number that was never given is refused at run time. A rollback takes the numbers back that were given since the snapshot, and
+/// gives them anew.
+///
+/// The promise is that of [`Infer`]: what solves all that was asked is not lost, and a goal that is done has a proof at each solution that is
+/// left. What it says of solutions holds while no goal has where-clauses or placeholders.
+///
+/// rustc: `ObligationCtxt` with its `InferCtxt`. rust-analyzer: `InferenceTable`.
+pub struct InferenceSession<'w> {
+    session: Session<'w>,
+    infer: Infer,
+    terms: Vec<GenericArgKind>,
+    snapshots: Vec<OpenSnapshot>,
+}
+
+// Hand-written so that the prover sees one drop call: docs/PROVING.md#drop.
+impl Drop for InferenceSession<'_> {
+    fn drop(self) {
+        let InferenceSession {
+            session: _,
+            infer: _,
+            terms: _,
+            snapshots: _,
+        } = self;
+    }
+}
+
+impl<'w> Model for InferenceSession<'w> {
+    ghost use Rattle.session_inference.specs.Inferences.{Inference, inference_code};
+
+    ghost Value = { Inference };
+
+    ghost coded = { inference_code };
+
+    ghost use Rattle.session_inference.specs.Inferences.{IsInferring};
+
+    ghost view = { λ s. record { subject = s.session; context = s.infer; terms = s.terms.items; snapshots = s.snapshots.items } };
+
+    ghost invariant = { λ s. IsInferring s.session s.infer s.terms.items s.snapshots.items };
+}
+
+impl<'w> InferenceSession<'w> {
+    ghost use Rattle.session_inference.specs.Inferences.{AsksFurther, ErrorAtLimit, InfersOn, HasNewTerm, HasNoSolutionWith, HasNoTerm, term_numbered, terms_numbered};
+
+    /// An inference session without variables, goals and terms. It takes no memory yet.
+    pub fn new(session: Session<'w>) -> Self
+        ensures subject { result.subject ≡ session.entry }
+        ensures faithful { IsFaithfulIn no_variables [] result.subject result.context }
+        ensures none { result.context.goals.obligations.items ≡ [] }
+        ensures terms { result.terms ≡ [] }
+        ensures snapshots { result.snapshots ≡ [] }
+    {
+        let alloc = session.search.cx.alloc;
+        let infer = calls::begin(&session);
+        InferenceSession {
+            session,
+            infer,
+            terms: Vec::new(alloc),
+            snapshots: Vec::new(alloc),
+        }
+    }
+
+    /// The session, with all that its search has found. Variables, values and goals are dropped.
+    pub fn into_session(self) -> Session<'w>
+        ensures { result ≡ self.entry.subject }
+    {
+        let InferenceSession {
+            session,
+            infer: _,
+            terms: _,
+            snapshots: _,
+        } = self;
+        session
+    }
+
+    /// The session. Its interner has the terms.
+    pub fn session(&self) -> &Session<'w>
+        ensures { result.now ≡ self.now.subject }
+    {
+        &self.session
+    }
+
+    /// The term with this number, as a handle of the session's interner, or `None` if there is none.
+    pub fn term(&self, id: TermId) -> Option<GenericArgKind>
+        ensures { result ≡ slice_get self.now.terms id.index }
+    {
+        self.terms.get(id.index).copied()
+    }
+
+    /// A new type variable, with a number.
+    ///
+    /// Fails with `Memory` if memory is refused or there is no number for it, and with `Full` only if the session is at a limit.
+    ///
+    /// rustc: `InferCtxt::next_ty_var`.
+    pub fn fresh_ty(&mut self) -> Result<TermId, Fault>
+        ensures goes_on { InfersOn self.old self.new }
+        ensures is { IfOk result (HasNewTerm self.old self.new (leaf (infer of_type self.old.context.table.ty_vars))) }
+        ensures faithful { OnOk result
+            (HasOneMoreIn of_type self.old.context.table.ty_vars self.old.subject self.old.context self.new.subject self.new.context) }
+        ensures terms { OnErr result (self.new.terms ≡ self.old.terms) }
+        ensures full { IfErr result (SessionFullAtLimit self.new.subject) }
+    {
+        let made = calls::fresh_ty(&mut self.session, &mut self.infer);
+        numbered(&mut self.terms, made)
+    }
+
+    /// A new constant variable, with a number. It fails like [`InferenceSession::fresh_ty`].
+    ///
+    /// rustc: `InferCtxt::next_const_var`.
+    pub fn fresh_const(&mut self) -> Result<TermId, Fault>
+        ensures goes_on { InfersOn self.old self.new }
+        ensures is { IfOk result (HasNewTerm self.old self.new (leaf (infer of_const self.old.context.table.const_vars))) }
+        ensures faithful { OnOk result
+            (HasOneMoreIn of_const self.old.context.table.const_vars self.old.subject self.old.context self.new.subject self.new.context) }
+        ensures terms { OnErr result (self.new.terms ≡ self.old.terms) }
+        ensures full { IfErr result (SessionFullAtLimit self.new.subject) }
+    {
+        let made = calls::fresh_const(&mut self.session, &mut self.infer);
+        numbered(&mut self.terms, made)
+    }
+
+    /// A type without parts, with a number. It fails like [`InferenceSession::fresh_ty`].
+    pub fn primitive(&mut self, primitive: Primitive) -> Result<TermId, Fault>
+        ensures goes_on { InfersOn self.old self.new }
+        ensures context { self.new.context ≡ self.old.context }
+        ensures faithful { AsksFurther [] self.old self.new }
+        ensures is { IfOk result (HasNewTerm self.old self.new (primitive_trees primitive)) }
+        ensures terms { OnErr result (self.new.terms ≡ self.old.terms) }
+        ensures full { IfErr result (SessionFullAtLimit self.new.subject) }
+    {
+        let made = primitive_type(&mut self.session, primitive);
+        numbered(&mut self.terms, made)
+    }
+
+    /// The constant with this value, with a number. It fails like [`InferenceSession::fresh_ty`].
+    pub fn constant(&mut self, number: u64) -> Result<TermId, Fault>
+        ensures goes_on { InfersOn self.old self.new }
+        ensures context { self.new.context ≡ self.old.context }
+        ensures faithful { AsksFurther [] self.old self.new }
+        ensures is { IfOk result (HasNewTerm self.old self.new (leaf (value number))) }
+        ensures terms { OnErr result (self.new.terms ≡ self.old.terms) }
+        ensures full { IfErr result (SessionFullAtLimit self.new.subject) }
+    {
+        let made = value_constant(&mut self.session, number);
+        numbered(&mut self.terms, made)
+    }
+
+    /// A struct with these arguments, with a number. If they are not its arguments in number and kind, nothing decides goals of it.
+    ///
+    /// Fails with `NoSuchTerm` if a number has no term, and with a fault if memory is refused or the session is at a limit.
+    ///
+    /// rustc: `Ty::new_adt`.
+    pub fn adt(&mut self, struct_id: AdtId, args: &[TermId]) -> Result<TermId, InferenceError>
+        ensures goes_on { InfersOn self.old self.new }
+        ensures context { self.new.context ≡ self.old.context }
+        ensures faithful { AsksFurther [] self.old self.new }
+        ensures is { IfOk result (HasNewTerm self.old self.new (tree (adt struct_id.index) (terms_numbered self.old args.now) none)) }
+        ensures no_term { result ≡ Err InferenceError.NoSuchTerm → Any (HasNoTerm self.old) args.now }
+        ensures terms { OnErr result (self.new.terms ≡ self.old.terms) }
+        ensures full { IfErr result (ErrorAtLimit self.new) }
+    {
+        let alloc = *self.terms.allocator();
+        let list = terms_at(alloc, &self.terms, args)?;
+        let made = struct_type(&mut self.session, struct_id, list);
+        let id = numbered(&mut self.terms, made);
+        given(id)
+    }
+
+    /// Makes two types, constants or lifetimes equal.
+    ///
+    /// Fails with `NoSuchTerm` if one of the numbers has no term, with `NoSolution` if no solution of all that was asked makes them equal, and
+    /// with a fault if memory is refused or the session is at a limit. Then the context is as it was.
+    ///
+    /// rustc: `ObligationCtxt::eq`. rust-analyzer: `InferenceTable::unify`.
+    pub fn eq(&mut self, left: TermId, right: TermId) -> Result<(), InferenceError>
+        ensures goes_on { InfersOn self.old self.new }
+        ensures faithful { OnOk result (AsksFurther (equal (term_numbered self.old left) (term_numbered self.old right) ∷ []) self.old self.new) }
+        ensures no_solution { result ≡ Err InferenceError.NoSolution
+            → HasNoSolutionWith (equal (term_numbered self.old left) (term_numbered self.old right) ∷ []) self.old }
+        ensures no_term { result ≡ Err InferenceError.NoSuchTerm → HasNoTerm self.old left ⊎ HasNoTerm self.old right }
+        ensures as_it_was { OnErr result (self.new.context ≡ self.old.context) }
+        ensures terms { self.new.terms ≡ self.old.terms }
+        ensures full { IfErr result (ErrorAtLimit self.new) }
+    {
+        let left = term_at(&self.terms, left)?;
+        let right = term_at(&self.terms, right)?;
+        let made = calls::eq(&mut self.session, &mut self.infer, left, right);
+        equated(made)
+    }
+
+    /// Whether two terms can be equal, by the values of variables that are known. No goal is selected, and the context is as it was.
+    ///
+    /// - `true`: a solution of what was equated makes them equal.
+    /// - `false`: no solution of all that was asked does.
+    ///
+    /// Fails as [`InferenceSession::eq`] does.
+    ///
+    /// rustc: `InferCtxt::can_eq`. rust-analyzer: `InferenceTable::could_unify`.
+    pub fn can_eq(&mut self, left: TermId, right: TermId) -> Result<bool, InferenceError>
+        ensures goes_on { InfersOn self.old self.new }
+        ensures faithful { AsksFurther [] self.old self.new }
+        ensures as_before { IsAsBefore self.old.context self.new.context }
+        ensures possible { result ≡ Ok true
+            → HasSolution (content self.old.subject.terms self.old.context.table.values) (term_numbered self.old left) (term_numbered self.old right) }
+        ensures impossible { result ≡ Ok false → HasNoSolutionWith (equal (term_numbered self.old left) (term_numbered self.old right) ∷ []) self.old }
+        ensures no_term { result ≡ Err InferenceError.NoSuchTerm → HasNoTerm self.old left ⊎ HasNoTerm self.old right }
+        ensures terms { self.new.terms ≡ self.old.terms }
+        ensures full { IfErr result (ErrorAtLimit self.new) }
+    {
+        let left = term_at(&self.terms, left)?;
+        let right = term_at(&self.terms, right)?;
+        let made = calls::can_eq(&mut self.session, &mut self.infer, left, right);
+        given(made)
+    }
+
+    /// Registers the goal to prove that these terms implement this trait, the self type first. It is pending, and was not evaluated yet.
+    ///
+    /// If the trait is not declared, or the terms are not its arguments in number and kind, nothing decides the goal. Fails with `NoSuchTerm`
+    /// if a number has no term, and with a fault if memory is refused or the session is at a limit. Then nothing is registered.
+    ///
+    /// rustc: `ObligationCtxt::register_obligation`. rust-analyzer: `InferenceTable::register_obligation`.
+    pub fn register(
+        &mut self,
+        trait_id: TraitId,
+        args: &[TermId],
+    ) -> Result<ObligationId, InferenceError>
+        ensures goes_on { InfersOn self.old self.new }
+        ensures registered { IfOk result (HasRegistered self.new.subject.terms self.old.context self.new.context
+            (record { trait = trait_id.index; args = terms_numbered self.old args.now })) }
+        ensures faithful { OnOk result
+            (AsksFurther (proved (goal_alone (record { trait = trait_id.index; args = terms_numbered self.old args.now })) ∷ []) self.old self.new) }
+        ensures no_term { result ≡ Err InferenceError.NoSuchTerm → Any (HasNoTerm self.old) args.now }
+        ensures terms { self.new.terms ≡ self.old.terms }
+        ensures full { IfErr result (ErrorAtLimit self.new) }
+    {
+        let alloc = *self.terms.allocator();
+        let list = terms_at(alloc, &self.terms, args)?;
+        let made = calls::register(&mut self.session, &mut self.infer, trait_id, list);
+        given(made)
+    }
+
+    /// Selects the registered goals. What answers fix stays, whatever their certainty.
+    ///
+    /// - `AllDone`: each obligation is done: at each solution of the table it has a proof by what the session's crate sees.
+    /// - `Refused`: this obligation was refused. Then there is no solution of all that was asked.
+    /// - `Pending`: some obligation is pending, and another evaluation fixes nothing new.
+    ///
+    /// Fails with `Memory` if memory is refused, and with `Full` only if the session is at a limit. What was found stays.
+    ///
+    /// rustc: `ObligationCtxt::select_where_possible`. rust-analyzer: `InferenceTable::select_obligations_where_possible`.
+    pub fn select_where_possible(&mut self) -> Result<Selected, Fault>
+        ensures goes_on { InfersOn self.old self.new }
+        ensures faithful { AsksFurther [] self.old self.new }
+        ensures done { DoneHaveProofs self.new.subject self.new.context }
+        ensures all_done { result ≡ Ok Selected.AllDone
+            → All (λ (o : Obligation). o.standing ≡ Standing.Done) self.new.context.goals.obligations.items }
+        ensures refused { (id : ObligationId) → result ≡ Ok (Selected.Refused id) → HasNoSolutionWith [] self.old }
+        ensures terms { self.new.terms ≡ self.old.terms }
+        ensures full { IfErr result (SessionFullAtLimit self.new.subject) }
+    {
+        calls::select_where_possible(&mut self.session, &mut self.infer)
+    }
+
+    /// The obligations, in the order in which they were registered. One that is pending has its cause, and one that was refused says so.
+    pub fn obligations(&self) -> &[Obligation]
+        ensures { result.now ≡ self.now.context.goals.obligations.items }
+    {
+        self.infer.obligations()
+    }
+
+    /// The term with the values that are known, with a number of its own: each variable with a value is replaced by it.
+    ///
+    /// Under each solution of all that was asked, a term of own variables is an instance of it. Fails as [`InferenceSession::eq`] does.
+    ///
+    /// rustc: `InferCtxt::resolve_vars_if_possible`. rust-analyzer: `InferenceTable::resolve_completely`, where open variables stay.
+    pub fn resolve(&mut self, term: TermId) -> Result<TermId, InferenceError>
+        ensures goes_on { InfersOn self.old self.new }
+        ensures context { self.new.context ≡ self.old.context }
+        ensures faithful { AsksFurther [] self.old self.new }
+        ensures is { IfOk result (HasNewTerm self.old self.new
+            (resolved (content self.old.subject.terms self.old.context.table.values) (term_numbered self.old term))) }
+        ensures shows { OnOk result (ShowsSolutionsIn self.old.subject self.old.context (term_numbered self.old term)
+            (resolved (content self.old.subject.terms self.old.context.table.values) (term_numbered self.old term))) }
+        ensures no_term { result ≡ Err InferenceError.NoSuchTerm → HasNoTerm self.old term }
+        ensures terms { OnErr result (self.new.terms ≡ self.old.terms) }
+        ensures full { IfErr result (ErrorAtLimit self.new) }
+    {
+        let term = term_at(&self.terms, term)?;
+        let shown = calls::resolve(&mut self.session, &self.infer, term);
+        let made = numbered(&mut self.terms, shown);
+        given(made)
+    }
+
+    /// Opens a snapshot, behind those that are open. Fails if memory is refused.
+    ///
+    /// rustc: `InferCtxt::start_snapshot`. rust-analyzer: `InferenceTable::snapshot`.
+    pub fn start_snapshot(&mut self) -> Result<(), AllocError>
+        ensures subject { self.new.subject ≡ self.old.subject }
+        ensures context { self.new.context ≡ self.old.context }
+        ensures terms { self.new.terms ≡ self.old.terms }
+        ensures taken { IfOk result (λ _. (m : OpenSnapshot) × (self.new.snapshots ≡ self.old.snapshots ++ m ∷ [])
+            × IsSnapshotOf self.old.context m.context × (m.terms ≡ length self.old.terms)) }
+        ensures refused { OnErr result (self.new.snapshots ≡ self.old.snapshots) }
+    {
+        let alloc = *self.terms.allocator();
+        let context = self.infer.snapshot(alloc)?;
+        let taken = OpenSnapshot {
+            context,
+            terms: self.terms.len(),
+        };
+        opened(&mut self.snapshots, taken)
+    }
+
+    /// Ends the snapshot that was opened last, and keeps what was done since. Whether one was open.
+    ///
+    /// rustc: `InferCtxt::commit_from`.
+    pub fn commit(&mut self) -> bool
+        ensures subject { self.new.subject ≡ self.old.subject }
+        ensures context { self.new.context ≡ self.old.context }
+        ensures terms { self.new.terms ≡ self.old.terms }
+        ensures ended { result ≡ true → (m : OpenSnapshot) × (self.old.snapshots ≡ self.new.snapshots ++ m ∷ []) }
+        ensures none { result ≡ false → (self.old.snapshots ≡ []) × (self.new.snapshots ≡ []) }
+    {
+        self.snapshots.pop().is_some()
+    }
+
+    /// Restores the context as it was at the snapshot that was opened last, and ends that: its variables and their values, its obligations and
+    /// how they stand, and its terms. What the search found stays. Whether a snapshot was open.
+    ///
+    /// rustc: `InferCtxt::rollback_to`. rust-analyzer: `InferenceTable::rollback_to`.
+    pub fn roll_back(&mut self) -> bool
+        ensures subject { self.new.subject ≡ self.old.subject }
+        ensures restored { result ≡ true → (m : OpenSnapshot) × (self.old.snapshots ≡ self.new.snapshots ++ m ∷ [])
+            × (self.new.terms ≡ take m.terms self.old.terms)
+            × ((before : Infer) → IsSnapshotOf before m.context → HasGrownFrom before self.old.context → IsAsBefore before self.new.context) }
+        ensures none { result ≡ false → (self.old.snapshots ≡ []) × (self.new ≡ self.old) }
+    {
+        match self.snapshots.pop() {
+            None => false,
+            Some(taken) => {
+                let OpenSnapshot { context, terms } = taken;
+                self.infer.rollback_to(context);
+                self.terms.truncate(terms);
+                true
+            }
+        }
+    }
+}

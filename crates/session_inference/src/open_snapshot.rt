@@ -1,0 +1,10 @@
+//! Snapshots that are open.
+
+use inference::Snapshot;
+
+/// A snapshot of an inference session that was neither rolled back to nor ended: that of its context, and how many terms had numbers.
+#[derive(Drop)]
+pub struct OpenSnapshot {
+    pub context: Snapshot,
+    pub terms: usize,
+}
