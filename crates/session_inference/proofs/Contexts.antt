@@ -1,6 +1,6 @@
 -- Inference contexts over the search of a session.
 use Rattle.std.specs.Prelude.{IfErr, OnErr, OnOk}
-use Rattle.std.proofs.Common.{◌≡◌, ◌<◌, ◌∙◌, ◌||◌, ℕ, refl, sym, ap, subst, List, [], ◌++◌, get_or, length, All, Contains, Result}
+use Rattle.std.proofs.Common.{◌≡◌, ◌<◌, ◌∙◌, ◌||◌, ℕ, refl, sym, ap, subst, List, [], ◌++◌, get_or, length, All, Contains, Result, ◌⊎◌, inl, inr}
 use Rattle.std.proofs.lemmas.Result.{IfErr-weaker}
 use Rattle.type_terms.specs.Promised.Handles.{Entry, Keeps, SomeKindIsFull}
 use Rattle.type_terms.specs.Promised.Label.{Sort}
@@ -34,7 +34,8 @@ use Rattle.candidate_assembly.specs.SolverLaws.{solver-laws}
 use Rattle.candidate_assembly.specs.SolverMeaning.{solver_by_view}
 use Rattle.candidate_assembly.specs.Solving.{Solving}
 use Rattle.candidate_assembly.specs.declared.solver.Solver.{Solver}
-use Rattle.fulfillment.specs.Selecting.{HasSelected}
+use Rattle.fulfillment.specs.Obligations.{SomeIsSpent}
+use Rattle.fulfillment.specs.Selecting.{HasSelected, SomeStaysOpen}
 use Rattle.fulfillment.specs.declared.obligation.Obligation.{Obligation}
 use Rattle.fulfillment.specs.declared.obligation.Standing.TheVariants.{Done}
 use Rattle.text_language.specs.Promised.Declarations.{Declarations}
@@ -52,7 +53,7 @@ use Rattle.inference.specs.declared.context.Infer.{Infer}
 use Rattle.inference.proofs.Calls.{can-same, faithful-same}
 use Rattle.inference.proofs.Growing.{itself}
 use Rattle.inference.proofs.Results.{either, on-err, on-ok}
-use Rattle.session_inference.specs.Contexts.{CanInferIn, DoneHaveProofs, EquationAtLimit, HasOneMoreIn, HaveNoSolutionIn, IsAskedFurtherIn, IsContextOf, IsFaithfulIn, IsOverTerms, LeavesInferring, LetsRest, ShowsSolutionsIn}
+use Rattle.session_inference.specs.Contexts.{CanInferIn, DoneHaveProofs, EquationAtLimit, HasOneMoreIn, HaveNoSolutionIn, IsAskedFurtherIn, IsContextOf, IsFaithfulIn, IsOverTerms, LeavesInferring, LetsRest, ShowsSolutionsIn, SomeIsUnsettledIn}
 use Rattle.session_inference.proofs.Restored.{faithful-as}
 use Rattle.session_inference.proofs.Solvings.{same-solving}
 
@@ -158,6 +159,10 @@ module _ (d : Declarations) (c n h : ℕ) (x : SolverCx Solver) (g : SearchState
   never-in further i never own asked f v s =
       never own asked (f x own-context) v
       (subst (λ (w : Solving). SolvesDemands solver_by_view i.mode w own (further ++ asked) v) (same-solving d c s.0 _ s.1 is.session.solving) s.2)
+
+  pub unsettled-in : (i : Infer) → SomeIsSpent i.goals.obligations.items ⊎ SomeStaysOpen solver_by_view i.mode g x i.table i.goals.obligations.items → SomeIsUnsettledIn (subject d c n h x g) i
+  unsettled-in i (inl spent) = inl spent
+  unsettled-in i (inr left) = inr (x, own-context, g, left)
 
   pub shows-in : (i : Infer) (t shown : Trees) → ShowsSolutions solver_by_view x i t shown → ShowsSolutionsIn (subject d c n h x g) i t shown
   shows-in i t shown shows own asked f alone v s =

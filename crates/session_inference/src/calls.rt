@@ -19,7 +19,7 @@ ghost use Rattle.sessions.specs.Promised.Shortages.{SessionFullAtLimit};
 ghost use Rattle.sessions.specs.Promised.Subjects.{StaysOn};
 ghost use Rattle.inference.specs.Inference.{equal, proved};
 ghost use Rattle.inference.specs.Inferring.{GoalIsOver, HasSolution, IsAsBefore, no_variables};
-ghost use Rattle.session_inference.specs.Contexts.{AreTermsOver, CanInferIn, DoneHaveProofs, EquationAtLimit, HasOneMoreIn, HasRegistered, HaveNoSolutionIn, IsAskedFurtherIn, IsFaithfulIn, IsTermOver, LeavesInferring, LetsRest, ShowsSolutionsIn};
+ghost use Rattle.session_inference.specs.Contexts.{AreTermsOver, CanInferIn, DoneHaveProofs, EquationAtLimit, HasOneMoreIn, HasRegistered, HaveNoSolutionIn, IsAskedFurtherIn, IsFaithfulIn, IsTermOver, LeavesInferring, LetsRest, ShowsSolutionsIn, SomeIsUnsettledIn};
 
 use crate::making::{args_in, const_made, type_made};
 use fulfillment::{ObligationId, Selected, Standing};
@@ -211,6 +211,7 @@ pub(crate) fn select_where_possible(
     ensures faithful { IsAskedFurtherIn [] session.old context.old session.new context.new }
     ensures all_done { result ≡ Ok Selected.AllDone → All (λ (o : Obligation). o.standing ≡ Standing.Done) context.new.goals.obligations.items }
     ensures done { DoneHaveProofs session.new context.new }
+    ensures unsettled { result ≡ Ok Selected.Pending → SomeIsUnsettledIn session.old context.old }
     ensures refused { (id : ObligationId) → result ≡ Ok (Selected.Refused id) → HaveNoSolutionIn [] session.old context.old }
     ensures full { IfErr result (SessionFullAtLimit session.new) }
 {

@@ -13,7 +13,7 @@ ghost use Rattle.inference.specs.Inference.{equal, proved};
 ghost use Rattle.inference.specs.Inferring.{HasGrownFrom, HasSolution, IsAsBefore, IsSnapshotOf, no_variables};
 ghost use Rattle.inference.specs.declared.context.Infer.{Infer};
 ghost use Rattle.session_inference.specs.declared.open_snapshot.OpenSnapshot.{OpenSnapshot};
-ghost use Rattle.session_inference.specs.Contexts.{DoneHaveProofs, HasOneMoreIn, HasRegistered, IsFaithfulIn, ShowsSolutionsIn};
+ghost use Rattle.session_inference.specs.Contexts.{DoneHaveProofs, HasOneMoreIn, HasRegistered, IsFaithfulIn, ShowsSolutionsIn, SomeIsUnsettledIn};
 ghost use Rattle.session_inference.specs.Primitives.{primitive_trees};
 
 use crate::calls;
@@ -289,6 +289,7 @@ impl<'w> InferenceSession<'w> {
         ensures done { DoneHaveProofs self.new.subject self.new.context }
         ensures all_done { result ≡ Ok Selected.AllDone
             → All (λ (o : Obligation). o.standing ≡ Standing.Done) self.new.context.goals.obligations.items }
+        ensures unsettled { result ≡ Ok Selected.Pending → SomeIsUnsettledIn self.old.subject self.old.context }
         ensures refused { (id : ObligationId) → result ≡ Ok (Selected.Refused id) → HasNoSolutionWith [] self.old }
         ensures terms { self.new.terms ≡ self.old.terms }
         ensures full { IfErr result (SessionFullAtLimit self.new.subject) }

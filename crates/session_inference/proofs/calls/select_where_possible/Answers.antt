@@ -3,8 +3,8 @@ use Rattle.fulfillment.specs.declared.obligation.ObligationId.{ObligationId}
 use Rattle.fulfillment.specs.declared.selecting.Selected.TheVariants as outcome
 use Rattle.sessions.specs.Promised.Subjects.{Subject}
 use Rattle.sessions.proofs.ShortCalls.{at-limit}
-use Rattle.session_inference.specs.Contexts.{CanInferIn, HaveNoSolutionIn, IsAskedFurtherIn, LeavesInferring}
-use Rattle.session_inference.proofs.Contexts.{done-proved, further-in, holds-as, infers, leaves-asked, never-in, rests-here, selected, subject, within}
+use Rattle.session_inference.specs.Contexts.{CanInferIn, HaveNoSolutionIn, IsAskedFurtherIn, LeavesInferring, SomeIsUnsettledIn}
+use Rattle.session_inference.proofs.Contexts.{done-proved, further-in, holds-as, infers, leaves-asked, never-in, rests-here, selected, subject, unsettled-in, within}
 use Rattle.session_inference.proofs.calls.select_where_possible.Goals as goal
 
 pub select_where_possible-requires : goal.select_where_possible-requires
@@ -70,6 +70,12 @@ returns-clause-done c =
     let f = can.faithful in
     done-proved i.workspace.now i.crate_id.index i.limits.depth i.limits.handles i.search.cx y i.search.graph k i.search.cache ls is on c.args.context.now call.new.self can call.ensures.again call.ensures.grows
     (f.0, f.1, further-in i.workspace.now i.crate_id.index i.limits.depth i.limits.handles i.search.cx y i.search.graph k i.search.cache ls is on [] c.args.context.now call.new.self call.ensures.faithful f.0 f.1 f.2)
+
+pub returns-clause-unsettled : goal.returns-clause-unsettled
+returns-clause-unsettled c =
+    let i = c.session.inside in
+    subst (λ (s : Subject). c.select_where_possible.result ≡ Ok outcome.Pending → SomeIsUnsettledIn s c.args.context.now) c.session.view_is
+    (λ e. unsettled-in i.workspace.now i.crate_id.index i.limits.depth i.limits.handles i.search.cx i.search.graph i.search.cache c.session.invariant c.args.context.now (c.select_where_possible.ensures.unsettled e))
 
 pub returns-clause-refused : goal.returns-clause-refused
 returns-clause-refused c =

@@ -1,6 +1,7 @@
 use Rattle.std.proofs.Common.{◌≡◌, [], Ok, refl, subst}
 use Rattle.fulfillment.specs.declared.obligation.ObligationId.{ObligationId}
 use Rattle.fulfillment.specs.declared.selecting.Selected.TheVariants as outcome
+use Rattle.session_inference.specs.Contexts.{SomeIsUnsettledIn}
 use Rattle.session_inference.specs.Inferences.{AsksFurther, InfersOn, HasNoSolutionWith, Inference}
 use Rattle.session_inference.proofs.Inferences.{inferring-same}
 use Rattle.session_inference.proofs.inferring.InferenceSession.select_where_possible.Goals as goal
@@ -24,6 +25,10 @@ returns-clause-faithful c =
     let i = c.self.inside in
     let new : Inference = record { subject = c.select_where_possible.new.session; context = c.select_where_possible.new.context; terms = i.terms.items; snapshots = i.snapshots.items } in
     subst (λ (v : Inference). AsksFurther [] v new) c.self.view_is c.select_where_possible.ensures.faithful
+
+pub returns-clause-unsettled : goal.returns-clause-unsettled
+returns-clause-unsettled c =
+    subst (λ (v : Inference). c.select_where_possible.result ≡ Ok outcome.Pending → SomeIsUnsettledIn v.subject v.context) c.self.view_is c.select_where_possible.ensures.unsettled
 
 pub returns-clause-refused : goal.returns-clause-refused
 returns-clause-refused c =
