@@ -1,8 +1,10 @@
 -- What a session leaves for the next session of its crate.
 use Rattle.std.specs.Prelude.{◌<◌, ℕ, length}
 use Rattle.text_language.specs.Promised.Declarations.{Declarations}
+use Rattle.goal_frames.specs.Stores.{kept_inputs, kept_responses}
 use Rattle.solver_graph.specs.Contexts.{entries_of}
 use Rattle.candidate_assembly.specs.Fitting.{solving_of}
+use Rattle.sessions.specs.Promised.Subjects.{Subject}
 use Rattle.sessions.specs.Sessions.{HasLimits, IsSolvingOf, SolverRests, SolvesView}
 use Rattle.sessions.specs.SeenViews.{IsViewOf}
 use Rattle.sessions.specs.declared.seen_view.SeenView.{SeenView}
@@ -16,6 +18,19 @@ pub record IsLeftSession (d : Declarations) (depth handles : ℕ) (left : LeftSe
   pub solving : IsSolvingOf d left.crate_id.index (solving_of (entries_of left.search.cx) left.search.cx.handler.declarations)
   pub rest : SolverRests depth left.search.cx left.search.graph left.search.cache
   pub limits : HasLimits handles left.search.cx
+
+-- What the next session of its crate is about, on these declarations and with these limits.
+abbrev pub subject_after : Declarations → ℕ → ℕ → LeftSession → Subject
+subject_after d depth handles left = record {
+  declarations = d;
+  of_crate = left.crate_id.index;
+  depth = depth;
+  handles = handles;
+  terms = entries_of left.search.cx;
+  goals = length (kept_inputs left.search.cx.store);
+  answers = length (kept_responses left.search.cx.store);
+  frames = left.search.graph.frames;
+}
 
 -- The view is what the crate of a left session sees, of each text on which that is a session that was left.
 abbrev pub LeavesView : LeftSession → SeenView → Type 0

@@ -21,7 +21,7 @@ ghost use Rattle.sessions.specs.Promised.FrameBounds.{ProvesInFrames, RefutesInF
 ghost use Rattle.sessions.specs.Promised.Given.{AnswerValuesHeld, VerdictHeld, answer_in, later_of, refutation_of, supers_answer_of, verdict_in};
 ghost use Rattle.sessions.specs.Promised.Promises.{IsProved, IsRefutation, IsVerdictOf};
 ghost use Rattle.sessions.specs.Promised.Releases.{AddedImplsBreakNoUser, IsSectionOf, IsLaterAnswer, IsSupersAnswer, OldProofsStay};
-ghost use Rattle.sessions.specs.LeftSessions.{IsLeftSession};
+ghost use Rattle.sessions.specs.LeftSessions.{IsLeftSession, subject_after};
 ghost use Rattle.sessions.specs.SeenViews.{IsLeftView, IsViewOf};
 ghost use Rattle.sessions.specs.Shown.{AreProofOfBound};
 ghost use Rattle.sessions.specs.Promised.Shortages.{SessionFullAtLimit};
@@ -256,10 +256,12 @@ impl<'w> Session<'w> {
         Session::behind(alloc, workspace, crate_id, limits, view)
     }
 
-    /// The session of the same crate that goes on with what one left.
-    fn resumed(workspace: &'w Workspace, limits: Limits, left: LeftSession) -> Self
+    /// The session of the same crate that goes on with what one left, which a session with the same limits left, on a text with the same
+    /// declarations. It takes no memory.
+    pub fn resumed(workspace: &'w Workspace, limits: Limits, left: LeftSession) -> Self
         requires parsed { IsOfText workspace.now }
         requires left { IsLeftSession workspace.now limits.depth limits.handles left }
+        ensures subject { result ≡ subject_after workspace.now limits.depth limits.handles left }
         ensures declarations { result.declarations ≡ workspace.now }
         ensures of_crate { result.of_crate ≡ left.crate_id.index }
         ensures depth { result.depth ≡ limits.depth }
@@ -280,6 +282,7 @@ impl<'w> Session<'w> {
     pub fn leave(self) -> LeftSession
         ensures left { IsLeftSession self.entry.declarations self.entry.depth self.entry.handles result }
         ensures of_crate { result.crate_id.index ≡ self.entry.of_crate }
+        ensures subject { subject_after self.entry.declarations self.entry.depth self.entry.handles result ≡ self.entry }
     {
         let Session {
             workspace: _,

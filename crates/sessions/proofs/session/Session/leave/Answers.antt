@@ -1,5 +1,5 @@
-use Rattle.std.proofs.Common.{ap, subst}
-use Rattle.sessions.specs.LeftSessions.{IsLeftSession}
+use Rattle.std.proofs.Common.{◌≡◌, ap, refl, subst}
+use Rattle.sessions.specs.LeftSessions.{IsLeftSession, subject_after}
 use Rattle.sessions.specs.Promised.Subjects.{Subject}
 use Rattle.sessions.specs.declared.left_session.LeftSession.{LeftSession}
 use Rattle.sessions.proofs.LeftSessions.{session-left}
@@ -13,4 +13,5 @@ returns c =
       left = subst (λ (x : Subject). IsLeftSession x.declarations x.depth x.handles left) c.self.view_is
           (session-left i.workspace.now i.limits.depth i.limits.handles left c.self.invariant);
       of_crate = ap (λ (x : Subject). x.of_crate) c.self.view_is;
+      subject = subst (λ (x : Subject). subject_after x.declarations x.depth x.handles left ≡ x) c.self.view_is refl;
     }
