@@ -14,6 +14,7 @@ use Rattle.infer_table.specs.Growth.{grows-refl}
 use Rattle.infer_table.specs.Kept.{ready-later}
 use Rattle.infer_table.specs.Solutions.{Assignment, Solves}
 use Rattle.infer_table.specs.Shortages.{EqFullAtLimit}
+use Rattle.infer_table.specs.Unification.{table_trees}
 use Rattle.infer_table.specs.declared.certainty.EqError.{EqError}
 use Rattle.infer_table.proofs.SolutionLaws.{is_variable-self}
 use Rattle.search_graph.specs.Cache.{AreJustified}
@@ -34,7 +35,8 @@ use Rattle.candidate_assembly.specs.SolverLaws.{solver-laws}
 use Rattle.candidate_assembly.specs.SolverMeaning.{solver_by_view}
 use Rattle.candidate_assembly.specs.Solving.{Solving}
 use Rattle.candidate_assembly.specs.declared.solver.Solver.{Solver}
-use Rattle.fulfillment.specs.Obligations.{SomeIsSpent}
+use Rattle.fulfillment.specs.Leaving.{SomeIsOpen}
+use Rattle.fulfillment.specs.Obligations.{SomeIsSpent, trees_of_goals}
 use Rattle.fulfillment.specs.Selecting.{HasSelected, SomeStaysOpen}
 use Rattle.fulfillment.specs.declared.obligation.Obligation.{Obligation}
 use Rattle.fulfillment.specs.declared.obligation.Standing.TheVariants.{Done}
@@ -162,7 +164,13 @@ module _ (d : Declarations) (c n h : ℕ) (x : SolverCx Solver) (g : SearchState
 
   pub unsettled-in : (i : Infer) → SomeIsSpent i.goals.obligations.items ⊎ SomeStaysOpen solver_by_view i.mode g x i.table i.goals.obligations.items → SomeIsUnsettledIn (subject d c n h x g) i
   unsettled-in i (inl spent) = inl spent
-  unsettled-in i (inr left) = inr (x, own-context, g, left)
+  unsettled-in i (inr left) =
+      inr (
+        solving_of (entries_of x) x.handler.declarations,
+        is.session.solving,
+        subst (λ depth. SomeIsOpen solver_by_view i.mode (world_in solver_by_view x) depth (trees_of_goals (entries_of x) i.goals.obligations.items) (table_trees (entries_of x) i.table)) is.session.rest.depth
+            left,
+      )
 
   pub shows-in : (i : Infer) (t shown : Trees) → ShowsSolutions solver_by_view x i t shown → ShowsSolutionsIn (subject d c n h x g) i t shown
   shows-in i t shown shows own asked f alone v s =

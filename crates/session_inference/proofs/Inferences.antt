@@ -1,5 +1,5 @@
 -- Terms and snapshots of inference sessions.
-use Rattle.std.specs.Prelude.{IfErr, IfOk, OnErr, OnOk, is_some, option_to_list}
+use Rattle.std.specs.Prelude.{IfErr, IfOk, IfSome, OnErr, OnOk, is_some, option_to_list}
 use Rattle.std.proofs.Common.{◌≡◌, ◌∙◌, ◌≤◌, ◌⊎◌, inl, inr, ℕ, zero, suc, arith, true, false, refl, sym, ap, subst, List, [], ◌∷◌, ◌++◌, length, map, take, Option, Some, None, slice_get, Result, Ok, Err}
 use Rattle.type_terms.specs.Promised.Handles.{Entry, Keeps, arg_trees}
 use Rattle.type_terms.specs.Promised.Label.{Sort}
@@ -8,7 +8,7 @@ use Rattle.type_terms.specs.Kinds.{args_trees}
 use Rattle.type_terms.proofs.ListBasics.{append-none, first-same, rest-same}
 use Rattle.type_terms.specs.Kept.{arg-held-later, arg-trees-later}
 use Rattle.type_terms.specs.declared.Fault.{Fault}
-use Rattle.type_terms.specs.declared.Fault.TheVariants.{Memory}
+use Rattle.type_terms.specs.declared.Fault.TheVariants.{Full, Memory}
 use Rattle.type_terms.specs.declared.kinds.GenericArgKind.{GenericArgKind}
 use Rattle.infer_table.specs.Canonical.{HasNoCanonical}
 use Rattle.infer_table.specs.Content.{Table, variables_of}
@@ -16,14 +16,15 @@ use Rattle.infer_table.specs.Covers.{AreKnown}
 use Rattle.infer_table.specs.Growth.{counts-kept}
 use Rattle.infer_table.proofs.KnownUnknowns.{known-more}
 use Rattle.overlap_check.proofs.Owning.{NoFewer}
-use Rattle.sessions.specs.Promised.Shortages.{SessionFullAtLimit}
+use Rattle.sessions.specs.Promised.Shortages.{IsAtLimit, SessionFullAtLimit}
 use Rattle.sessions.specs.Promised.Subjects.{Subject, StaysOn}
 use Rattle.inference.specs.Inferring.{HasGrownFrom, IsAsBefore, IsSnapshotOf}
 use Rattle.inference.specs.declared.context.Infer.{Infer}
 use Rattle.inference.proofs.Growing.{further, itself}
-use Rattle.session_inference.specs.Contexts.{AreTermsOver, IsTermOver, LeavesInferring, LetsRest}
+use Rattle.session_inference.specs.Contexts.{AreTermsOver, CanInferIn, IsTermOver, LeavesInferring, LetsRest}
 use Rattle.session_inference.specs.Inferences.{AreTaken, AreTakenAfter, HasNewTerm, Inference, InfersOn, IsInferring, IsOpenSnapshot, terms_numbered, trees_of_term}
 use Rattle.session_inference.specs.declared.error.InferenceError.{InferenceError}
+use Rattle.session_inference.specs.declared.error.InferenceError.TheVariants as error
 use Rattle.session_inference.specs.declared.open_snapshot.OpenSnapshot.{OpenSnapshot}
 use Rattle.session_inference.specs.declared.term_id.TermId.{TermId}
 use Rattle.session_inference.proofs.Restored.{can-as, grown-same-context}
@@ -241,6 +242,35 @@ pub given-new : (v w : Inference) (t : Trees) (m : Result TermId Fault) (r : Res
 given-new v w t m (Ok x) h p = subst (λ z. IfOk z (HasNewTerm v w t)) h p
 given-new v w t m (Err e) h p = tt
 
+-- ---- a term that was made if a shape takes its parts has a number
+pub inferring-there : (s t : Subject) (i j : Infer) (ts us : List GenericArgKind) (ms : List OpenSnapshot) (m : Result (Option GenericArgKind) Fault) (r : Result TermId InferenceError) → IsInferring s i ts ms
+    → LeavesInferring s i t j → IfOk m (λ o. IfSome o (IsTermOver t.terms (variables_of j.table))) → IfOk r (λ id. (a : GenericArgKind) × (m ≡ Ok (Some a)) × (us ≡ ts ++ a ∷ [])) → OnErr r (us ≡ ts)
+    → IsInferring t j us ms
+inferring-there s t i j ts us ms m (Ok id) h l x added refused =
+    let over = subst (λ z. IfOk z (λ o. IfSome o (IsTermOver t.terms (variables_of j.table)))) added.1 x in
+    subst (λ zs. IsInferring t j zs ms) (sym added.2) (inferring-on s t i j ts (added.0 ∷ []) ms h l (over, tt))
+inferring-there s t i j ts us ms m (Err f) h l x added refused = subst (λ zs. IsInferring t j zs ms) (sym refused) (inferring-same s t i j ts ms h l)
+
+pub new-term-there : (s : Subject) (i : Infer) (ts : List GenericArgKind) (ms : List OpenSnapshot) (w : Inference) (t : Trees) (m : Result (Option GenericArgKind) Fault) (r : Result TermId InferenceError)
+    → IfOk r (λ id. id.index ≡ length ts) → IfOk r (λ id. (a : GenericArgKind) × (m ≡ Ok (Some a)) × (w.terms ≡ ts ++ a ∷ [])) → IfOk m (λ o. IfSome o (λ a. arg_trees w.subject.terms a ≡ t))
+    → IfOk r (HasNewTerm (record { subject = s; context = i; terms = ts; snapshots = ms }) w t)
+new-term-there s i ts ms w t m (Ok id) n added x = record {
+  number = n;
+  term = added.0;
+  added = added.2;
+  is = subst (λ z. IfOk z (λ o. IfSome o (λ a. arg_trees w.subject.terms a ≡ t))) added.1 x;
+}
+new-term-there s i ts ms w t m (Err f) n added x = tt
+
+pub full-there : (s : Subject) (m : Result (Option GenericArgKind) Fault) (r : Result TermId InferenceError) → ((f : Fault) → r ≡ Err (error.Fault f) → (f ≡ Memory) ⊎ (m ≡ Err f)) → IfErr m (SessionFullAtLimit s)
+    → IfErr r (λ e. e ≡ error.Fault Full → IsAtLimit s)
+full-there s m (Ok id) e h = tt
+full-there s m (Err f) e h = λ q. by (e Full (ap Err q))
+  where
+    by : (Full ≡ Memory) ⊎ (m ≡ Err Full) → IsAtLimit s
+    by (inl x) = absurd cc
+    by (inr x) = subst (λ z. IfErr z (SessionFullAtLimit s)) x h refl
+
 -- ---- terms by their numbers
 pub all-there : (es : List Entry) (n : Sort → ℕ) (ts : List GenericArgKind) (ids : List TermId) (xs : List GenericArgKind) → AreTermsOver es n ts → map (λ (id : TermId). slice_get ts id.index) ids ≡ map Some xs
     → AreTermsOver es n xs
@@ -284,3 +314,11 @@ popped-none ms ns (Some m) e h none = absurd cc
 -- ---- a call that does nothing
 pub goes-on-itself : (v : Inference) → InfersOn v v
 goes-on-itself v = record { stays = record { declarations = refl; of_crate = refl; depth = refl; handles = refl; terms = λ i e h. h }; grows = itself v.context; snapshots = refl }
+
+pub leaves-itself : (s : Subject) (i : Infer) → CanInferIn s i → LeavesInferring s i s i
+leaves-itself s i can = record {
+  can = can;
+  stays = record { declarations = refl; of_crate = refl; depth = refl; handles = refl; terms = λ j e h. h };
+  grows = itself i;
+  rests = record { can = λ j h. h; faithful = λ j h own asked f. f };
+}

@@ -5,3 +5,5 @@ mod Inferences
 mod OwnTerms
 mod MadeTerms
 mod Lists
+mod Shapes
+mod Operations

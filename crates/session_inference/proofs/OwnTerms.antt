@@ -1,6 +1,7 @@
 -- What calls say of the terms that they make, and of their faults.
-use Rattle.std.specs.Prelude.{IfErr, IfOk, IsOk, OnErr, OnOk}
-use Rattle.std.proofs.Common.{◌≡◌, ◌<◌, ℕ, refl, sym, ap, subst, List, [], ◌∷◌, Result, Ok, Err}
+use Rattle.std.specs.Prelude.{IfErr, IfOk, IfSome, IsOk, OnErr, OnOk, is_some}
+use Rattle.std.specs.Option.{option_map}
+use Rattle.std.proofs.Common.{◌≡◌, ◌∙◌, ◌<◌, ℕ, Bool, refl, sym, ap, subst, List, [], ◌∷◌, Option, Some, None, Result, Ok, Err}
 use Rattle.type_terms.specs.Promised.Handles.{Entry, ArgHeld, ArgsHeld, Is, arg_trees, consts, types}
 use Rattle.type_terms.specs.Promised.Label.{Sort, infer}
 use Rattle.type_terms.specs.Promised.Trees.{Trees, leaf}
@@ -36,6 +37,26 @@ pub const-is : (es : List Entry) (t : Trees) (r : Result GenericArgKind Fault) (
 const-is es t (Err f) m e i h = tt
 const-is es t (Ok a) (Err f) e i h = absurd cc
 const-is es t (Ok a) (Ok x) e i h = subst (λ (z : GenericArgKind). (arg_trees es z ≡ t) × ArgHeld es z) (sym e) (trees-is es consts x.0 t h, (t, h))
+
+-- a type that was made if a shape takes its parts
+pub shaped-is : (es : List Entry) (t : Trees) (r : Result (Option GenericArgKind) Fault) (m : Result (Option Ty) Fault) → IfOk r (λ o. IfOk m (λ x. o ≡ option_map arg.Ty x)) → OnOk r (IsOk m)
+    → IfOk m (λ x. IfSome x (λ y. Is es types y.0 t)) → IfOk r (λ o. IfSome o (λ a. (arg_trees es a ≡ t) × ArgHeld es a))
+shaped-is es t (Err f) m e i h = tt
+shaped-is es t (Ok o) (Err f) e i h = absurd cc
+shaped-is es t (Ok o) (Ok None) e i h = subst (λ z. IfSome z (λ a. (arg_trees es a ≡ t) × ArgHeld es a)) (sym e) tt
+shaped-is es t (Ok o) (Ok (Some x)) e i h = subst (λ z. IfSome z (λ a. (arg_trees es a ≡ t) × ArgHeld es a)) (sym e) (trees-is es types x.0 t h, (t, h))
+
+pub shaped-takes : (b : Bool) (r : Result (Option GenericArgKind) Fault) (m : Result (Option Ty) Fault) → IfOk r (λ o. IfOk m (λ x. o ≡ option_map arg.Ty x)) → OnOk r (IsOk m) → IfOk m (λ x. is_some x ≡ b)
+    → IfOk r (λ o. is_some o ≡ b)
+shaped-takes b (Err f) m e i h = tt
+shaped-takes b (Ok o) (Err f) e i h = absurd cc
+shaped-takes b (Ok o) (Ok None) e i h = ap is_some e ∙ h
+shaped-takes b (Ok o) (Ok (Some x)) e i h = ap is_some e ∙ h
+
+pub trees-there : (es : List Entry) (t : Trees) (r : Result (Option GenericArgKind) Fault) → IfOk r (λ o. IfSome o (λ a. (arg_trees es a ≡ t) × ArgHeld es a)) → IfOk r (λ o. IfSome o (λ a. arg_trees es a ≡ t))
+trees-there es t (Ok None) h = tt
+trees-there es t (Ok (Some a)) h = h.0
+trees-there es t (Err f) h = tt
 
 pub trees-made : (es : List Entry) (t : Trees) (r : Result GenericArgKind Fault) → IfOk r (λ a. (arg_trees es a ≡ t) × ArgHeld es a) → IfOk r (λ a. arg_trees es a ≡ t)
 trees-made es t (Ok a) h = h.0

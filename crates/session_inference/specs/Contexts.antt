@@ -11,10 +11,10 @@ use Rattle.type_terms.specs.declared.kinds.GenericArgKind.{GenericArgKind}
 use Rattle.infer_table.specs.Content.{Ready, content, variables_of}
 use Rattle.infer_table.specs.Goals.{goal_trees}
 use Rattle.infer_table.specs.Solutions.{Assignment, Solves, instance}
+use Rattle.infer_table.specs.Unification.{table_trees}
 use Rattle.infer_table.specs.declared.certainty.EqError.{EqError}
 use Rattle.infer_table.specs.declared.certainty.EqError.TheVariants.{Fault}
 use Rattle.infer_table.specs.declared.certainty.TypingMode.TheVariants.{PostAnalysis}
-use Rattle.search_graph.specs.SearchState.{SearchState}
 use Rattle.solver_graph.specs.Contexts.{entries_of}
 use Rattle.solver_graph.specs.Roots.{fact_under}
 use Rattle.solver_graph.specs.declared.context.SolverCx.{SolverCx}
@@ -23,8 +23,8 @@ use Rattle.candidate_assembly.specs.Fitting.{solving_of}
 use Rattle.candidate_assembly.specs.Solving.{Solving}
 use Rattle.candidate_assembly.specs.SolverMeaning.{solver_by_view}
 use Rattle.candidate_assembly.specs.declared.solver.Solver.{Solver}
-use Rattle.fulfillment.specs.Obligations.{ObligationsHeld, SomeIsSpent}
-use Rattle.fulfillment.specs.Selecting.{SomeStaysOpen}
+use Rattle.fulfillment.specs.Leaving.{SomeIsOpen}
+use Rattle.fulfillment.specs.Obligations.{ObligationsHeld, SomeIsSpent, trees_of_goals}
 use Rattle.fulfillment.specs.declared.obligation.Obligation.{Obligation}
 use Rattle.fulfillment.specs.declared.obligation.ObligationId.{ObligationId}
 use Rattle.fulfillment.specs.declared.obligation.Standing.TheVariants.{Done}
@@ -96,12 +96,13 @@ DoneHaveProofs s i =
     → let f = fact_under v (goal_trees s.terms o.goal) in
     is_plain f ≡ true → HasProof (plainly_seen_from s.declarations s.of_crate) (clauses_of f.goal.environment) (reference_in f)) i.goals.obligations.items
 
--- An obligation that is not done may have no more answers with values, or the search does not settle one of the goals over a table that
--- answers to them leave.
+-- An obligation that is not done may have no more answers with values, or the search to the session's depth does not settle one of the goals
+-- over a table that answers to them leave.
 abbrev pub SomeIsUnsettledIn : Subject → Infer → Type 0
 SomeIsUnsettledIn s i =
-    SomeIsSpent i.goals.obligations.items
-    ⊎ ((c : SolverCx Solver) × IsContextOf s c × (g : SearchState) × SomeStaysOpen solver_by_view i.mode g c i.table i.goals.obligations.items)
+    let os = i.goals.obligations.items in
+    SomeIsSpent os
+    ⊎ ((w : Solving) × IsSolvingOf s.declarations s.of_crate w × SomeIsOpen solver_by_view i.mode w s.depth (trees_of_goals s.terms os) (table_trees s.terms i.table))
 
 -- ---- between two calls
 -- The context can be used in the session: it is over the session's terms, goals are evaluated outside coherence, and it is faithful to

@@ -1,5 +1,5 @@
 -- What contracts see of an inference session.
-use Rattle.std.specs.Prelude.{◌≡◌, ◌≤◌, ℕ, List, [], ◌∷◌, ◌++◌, Option, Some, None, length, slice_get, take, refl}
+use Rattle.std.specs.Prelude.{◌≡◌, ◌≤◌, ℕ, false, List, [], ◌∷◌, ◌++◌, Option, Some, None, length, map, slice_get, take, refl}
 use Rattle.std.specs.Coded.{Coded, code_by, coded×, coded_list}
 use Rattle.type_terms.specs.Promised.Handles.{Entry, arg_trees}
 use Rattle.type_terms.specs.Promised.Trees.{Trees, none, ◌+++◌}
@@ -14,11 +14,13 @@ use Rattle.inference.specs.Inference.{Demand}
 use Rattle.inference.specs.Inferring.{HasGrownFrom, IsSnapshotOf}
 use Rattle.inference.specs.contracts.context.Infer as infers
 use Rattle.inference.specs.declared.context.Infer.{Infer}
+use Rattle.session_inference.specs.Shapes.{takes}
 use Rattle.session_inference.specs.Contexts.{AreTermsOver, CanInferIn, HaveNoSolutionIn, IsAskedFurtherIn}
 use Rattle.session_inference.specs.contracts.open_snapshot.OpenSnapshot as snapshots
 use Rattle.session_inference.specs.declared.error.InferenceError.{InferenceError}
 use Rattle.session_inference.specs.declared.error.InferenceError.TheVariants as error
 use Rattle.session_inference.specs.declared.open_snapshot.OpenSnapshot.{OpenSnapshot}
+use Rattle.session_inference.specs.declared.shape.Shape.{Shape}
 use Rattle.session_inference.specs.declared.term_id.TermId.{TermId}
 
 -- What its session is about, its context, its terms by their numbers, and its open snapshots, the oldest first.
@@ -59,6 +61,12 @@ pub record HasNewTerm (v w : Inference) (t : Trees) (id : TermId) : Type 0 where
   pub term : GenericArgKind
   pub added : w.terms ≡ v.terms ++ term ∷ []
   pub is : arg_trees w.subject.terms term ≡ t
+
+-- The shape does not take the terms with these numbers.
+pub record TakesOthers (v : Inference) (h : Shape) (ids : List TermId) : Type 0 where
+  pub parts : List GenericArgKind
+  pub there : map (λ (id : TermId). slice_get v.terms id.index) ids ≡ map Some parts
+  pub others : takes h parts ≡ false
 
 -- ---- snapshots
 -- The snapshot is one of this context, made when so many of the terms had numbers.

@@ -4,7 +4,7 @@ ghost use Rattle.std.specs.Prelude.{◌≡◌};
 ghost use Rattle.type_terms.specs.declared.Fault.TheVariants.{Memory};
 ghost use Rattle.session_inference.specs.declared.error.InferenceError.TheVariants as error;
 
-use std::alloc::AllocFailed;
+use std::alloc::{AllocError, AllocFailed};
 use type_terms::Fault;
 
 /// Why a call failed.
@@ -13,6 +13,9 @@ pub enum InferenceError {
     /// There is no term of this number: it was never given, or a rollback took it.
     #[error("there is no term of this number")]
     NoSuchTerm,
+    /// The shape takes other parts: more, fewer, or of other kinds.
+    #[error("a type of this shape has other parts")]
+    WrongParts,
     /// No solution of all that was asked makes the terms equal.
     #[error("there is no solution")]
     NoSolution,
@@ -26,6 +29,14 @@ impl From<Fault> for InferenceError {
 
     fn from(fault: Fault) -> InferenceError {
         InferenceError::Fault(fault)
+    }
+}
+
+impl From<AllocError> for InferenceError {
+    ghost from_gives = { λ _ e. e ≡ error.Fault Memory };
+
+    fn from(_error: AllocError) -> InferenceError {
+        InferenceError::Fault(Fault::Memory)
     }
 }
 

@@ -1,35 +1,47 @@
 //! Inference sessions.
 
 ghost use Rattle.std.specs.Prelude.{◌≡◌, ◌∷◌, ◌++◌, ◌⊎◌, [], true, false, All, Any, Some, Ok, Err, IfOk, IfErr, IsOk, IsErr, OnOk, OnErr, length, slice_get, take, map};
-ghost use Rattle.type_terms.specs.Promised.Label.{adt, of_type, of_const, infer, value};
-ghost use Rattle.type_terms.specs.Promised.Trees.{leaf, none, tree};
+ghost use Rattle.type_terms.specs.Promised.Label.{of_type, of_const, infer, static, value};
+ghost use Rattle.type_terms.specs.Promised.Trees.{leaf};
+ghost use Rattle.type_terms.specs.Promised.Worlds.{sees};
 ghost use Rattle.infer_table.specs.Content.{content};
 ghost use Rattle.infer_table.specs.Solutions.{resolved};
 ghost use Rattle.fulfillment.specs.declared.obligation.Obligation.{Obligation};
 ghost use Rattle.fulfillment.specs.declared.obligation.ObligationId.{ObligationId};
 ghost use Rattle.sessions.specs.Asking.{goal_alone};
 ghost use Rattle.sessions.specs.Promised.Shortages.{SessionFullAtLimit};
+ghost use Rattle.sessions.specs.Promised.Subjects.{IsOfText};
+ghost use Rattle.text_language.specs.Output.{type_text};
+ghost use Rattle.text_language.specs.Promised.Declarations.{world_of};
 ghost use Rattle.inference.specs.Inference.{equal, proved};
 ghost use Rattle.inference.specs.Inferring.{HasGrownFrom, HasSolution, IsAsBefore, IsSnapshotOf, no_variables};
 ghost use Rattle.inference.specs.declared.context.Infer.{Infer};
 ghost use Rattle.session_inference.specs.declared.open_snapshot.OpenSnapshot.{OpenSnapshot};
 ghost use Rattle.session_inference.specs.Contexts.{DoneHaveProofs, HasOneMoreIn, HasRegistered, IsFaithfulIn, ShowsSolutionsIn, SomeIsUnsettledIn};
+ghost use Rattle.session_inference.specs.LeftInferences.{IsLeftInference, inference_after};
 ghost use Rattle.session_inference.specs.Primitives.{primitive_trees};
+ghost use Rattle.session_inference.specs.Shapes.{shaped_trees};
+ghost use Rattle.session_inference.specs.TermTexts.{inference_names};
 
 use crate::calls;
 use crate::error::InferenceError;
-use crate::making::{primitive_type, struct_type, value_constant};
+use crate::left_inference::LeftInference;
+use crate::making::{primitive_type, shaped_type, value_constant};
 use crate::open_snapshot::OpenSnapshot;
 use crate::primitive::Primitive;
+use crate::shape::Shape;
 use crate::term_id::TermId;
-use crate::terms::{equated, given, numbered, opened, term_at, terms_at};
+use crate::term_text::text_of;
+use crate::terms::{equated, given, numbered, numbered_there, opened, term_at, terms_at};
 use fulfillment::{Obligation, ObligationId, Selected, Standing};
 use inference::Infer;
 use sessions::Session;
 use std::alloc::AllocError;
 use std::marker::Model;
+use text_tables::Workspace;
 use type_terms::kinds::GenericArgKind;
-use type_terms::{AdtId, Fault, TraitId};
+use type_terms::region::{Region, RegionKind};
+use type_terms::{CrateId, Fault, TraitId};
 
 /// A session with an inference context over its search: variables with their values, and goals that have to hold together.
 ///
@@ -75,7 +87,7 @@ impl<'w> Model for InferenceSession<'w> {
 }
 
 impl<'w> InferenceSession<'w> {
-    ghost use Rattle.session_inference.specs.Inferences.{AsksFurther, ErrorAtLimit, InfersOn, HasNewTerm, HasNoSolutionWith, HasNoTerm, term_numbered, terms_numbered};
+    ghost use Rattle.session_inference.specs.Inferences.{AsksFurther, ErrorAtLimit, InfersOn, HasNewTerm, HasNoSolutionWith, HasNoTerm, TakesOthers, term_numbered, terms_numbered};
 
     /// An inference session without variables, goals and terms. It takes no memory yet.
     pub fn new(session: Session<'w>) -> Self
@@ -108,6 +120,48 @@ impl<'w> InferenceSession<'w> {
         session
     }
 
+    /// What it leaves: all but the text. [`InferenceSession::resumed`] goes on with it.
+    pub fn leave(self) -> LeftInference
+        ensures left { IsLeftInference self.entry.subject.declarations result }
+        ensures is { inference_after self.entry.subject.declarations result ≡ self.entry }
+    {
+        let InferenceSession {
+            session,
+            infer,
+            terms,
+            snapshots,
+        } = self;
+        let limits = session.limits;
+        LeftInference {
+            limits,
+            session: session.leave(),
+            infer,
+            terms,
+            snapshots,
+        }
+    }
+
+    /// The inference session that goes on with what one left, on a text with the same declarations. It takes no memory.
+    pub fn resumed(workspace: &'w Workspace, left: LeftInference) -> Self
+        requires parsed { IsOfText workspace.now }
+        requires left { IsLeftInference workspace.now left }
+        ensures { result ≡ inference_after workspace.now left }
+    {
+        let LeftInference {
+            limits,
+            session,
+            infer,
+            terms,
+            snapshots,
+        } = left;
+        InferenceSession {
+            session: Session::resumed(workspace, limits, session),
+            infer,
+            terms,
+            snapshots,
+        }
+    }
+
     /// The session. Its interner has the terms.
     pub fn session(&self) -> &Session<'w>
         ensures { result.now ≡ self.now.subject }
@@ -120,6 +174,13 @@ impl<'w> InferenceSession<'w> {
         ensures { result ≡ slice_get self.now.terms id.index }
     {
         self.terms.get(id.index).copied()
+    }
+
+    /// Whether its crate sees another one of the text.
+    pub fn sees(&self, id: CrateId) -> bool
+        ensures { result ≡ sees (world_of self.now.subject.declarations) self.now.subject.of_crate id.index }
+    {
+        self.session.workspace.sees(self.session.crate_id, id)
     }
 
     /// A new type variable, with a number.
@@ -180,25 +241,42 @@ impl<'w> InferenceSession<'w> {
         numbered(&mut self.terms, made)
     }
 
-    /// A struct with these arguments, with a number. If they are not its arguments in number and kind, nothing decides goals of it.
+    /// The lifetime `'static`, with a number. What stands here of terms holds up to lifetimes. Fails with `Memory` alone.
+    pub fn lifetime(&mut self) -> Result<TermId, Fault>
+        ensures subject { self.new.subject ≡ self.old.subject }
+        ensures context { self.new.context ≡ self.old.context }
+        ensures snapshots { self.new.snapshots ≡ self.old.snapshots }
+        ensures is { IfOk result (HasNewTerm self.old self.new (leaf static)) }
+        ensures terms { OnErr result (self.new.terms ≡ self.old.terms) }
+        ensures memory { IfErr result (λ e. e ≡ Fault.Memory) }
+    {
+        let region = Region {
+            kind: RegionKind::ReStatic,
+        };
+        numbered(&mut self.terms, Ok(GenericArgKind::Lifetime(region)))
+    }
+
+    /// A type of this shape with these parts, with a number. If they are not a struct's arguments in number and kind, nothing decides goals of
+    /// it.
     ///
-    /// Fails with `NoSuchTerm` if a number has no term, and with a fault if memory is refused or the session is at a limit.
+    /// Fails with `NoSuchTerm` if a number has no term, with `WrongParts` if another shape than that of a struct takes other parts, and with a
+    /// fault if memory is refused or the session is at a limit.
     ///
-    /// rustc: `Ty::new_adt`.
-    pub fn adt(&mut self, struct_id: AdtId, args: &[TermId]) -> Result<TermId, InferenceError>
+    /// rustc: `Ty::new_adt`, `Ty::new_ref`, `Ty::new_tup` and their like.
+    pub fn ty(&mut self, shape: Shape, parts: &[TermId]) -> Result<TermId, InferenceError>
         ensures goes_on { InfersOn self.old self.new }
         ensures context { self.new.context ≡ self.old.context }
         ensures faithful { AsksFurther [] self.old self.new }
-        ensures is { IfOk result (HasNewTerm self.old self.new (tree (adt struct_id.index) (terms_numbered self.old args.now) none)) }
-        ensures no_term { result ≡ Err InferenceError.NoSuchTerm → Any (HasNoTerm self.old) args.now }
+        ensures is { IfOk result (HasNewTerm self.old self.new (shaped_trees shape (terms_numbered self.old parts.now))) }
+        ensures no_term { result ≡ Err InferenceError.NoSuchTerm → Any (HasNoTerm self.old) parts.now }
+        ensures others { result ≡ Err InferenceError.WrongParts → TakesOthers self.old shape parts.now }
         ensures terms { OnErr result (self.new.terms ≡ self.old.terms) }
         ensures full { IfErr result (ErrorAtLimit self.new) }
     {
         let alloc = *self.terms.allocator();
-        let list = terms_at(alloc, &self.terms, args)?;
-        let made = struct_type(&mut self.session, struct_id, list);
-        let id = numbered(&mut self.terms, made);
-        given(id)
+        let list = terms_at(alloc, &self.terms, parts)?;
+        let made = shaped_type(&mut self.session, shape, list);
+        numbered_there(&mut self.terms, made)
     }
 
     /// Makes two types, constants or lifetimes equal.
@@ -325,6 +403,21 @@ impl<'w> InferenceSession<'w> {
         let shown = calls::resolve(&mut self.session, &self.infer, term);
         let made = numbered(&mut self.terms, shown);
         given(made)
+    }
+
+    /// The text of a term, as the language writes it: a type variable is `?0t`, and a constant variable `?0c`, by their numbers. That of a
+    /// lifetime is empty.
+    ///
+    /// Fails with `NoSuchTerm` if the number has no term, and with a fault if memory is refused.
+    pub fn display(&self, id: TermId) -> Result<Vec<u8>, InferenceError>
+        ensures text { IfOk result (λ text. text.items ≡ type_text (inference_names self.now.subject.declarations) (term_numbered self.now id)) }
+        ensures no_term { result ≡ Err InferenceError.NoSuchTerm → HasNoTerm self.now id }
+        ensures memory { (f : Fault) → result ≡ Err (InferenceError.Fault f) → f ≡ Fault.Memory }
+    {
+        let term = term_at(&self.terms, id)?;
+        let alloc = *self.terms.allocator();
+        let text = text_of(alloc, self.session.interner(), self.session.workspace, term)?;
+        Ok(text)
     }
 
     /// Opens a snapshot, behind those that are open. Fails if memory is refused.

@@ -11,15 +11,22 @@
 mod calls;
 mod error;
 mod inferring;
+mod left_inference;
 mod making;
 mod open_snapshot;
+mod operation;
 mod primitive;
+mod shape;
 mod term_id;
+mod term_text;
 mod terms;
 
 pub use error::InferenceError;
 pub use fulfillment::{Obligation, ObligationId, Selected, Standing};
 pub use inferring::InferenceSession;
+pub use left_inference::LeftInference;
 pub use open_snapshot::OpenSnapshot;
+pub use operation::Operation;
 pub use primitive::Primitive;
+pub use shape::Shape;
 pub use term_id::TermId;

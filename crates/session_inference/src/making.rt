@@ -1,24 +1,27 @@
 //! Terms that are made in a session. The contexts of the session rest.
 
-ghost use Rattle.std.specs.Prelude.{◌≡◌, Err, IfErr, IfOk, IsOk, OnOk};
+ghost use Rattle.std.specs.Prelude.{◌≡◌, Err, IfErr, IfOk, IfSome, IsOk, OnOk, is_some};
+ghost use Rattle.std.specs.Option.{option_map};
 ghost use Rattle.type_terms.specs.Growth.{FullAtLimit};
 ghost use Rattle.type_terms.specs.Kinds.{ConstHeld, KindHeld, args_trees, const_trees, kind_trees};
 ghost use Rattle.type_terms.specs.Promised.Handles.{ArgHeld, ArgsHeld, Is, arg_trees, consts, types};
-ghost use Rattle.type_terms.specs.Promised.Label.{adt, value};
-ghost use Rattle.type_terms.specs.Promised.Trees.{leaf, none, tree};
+ghost use Rattle.type_terms.specs.Promised.Label.{value};
+ghost use Rattle.type_terms.specs.Promised.Trees.{leaf};
 ghost use Rattle.type_terms.specs.Terms.{args_lists};
 ghost use Rattle.solver_graph.specs.Contexts.{Advances, IsReady};
 ghost use Rattle.sessions.specs.Promised.Shortages.{SessionFullAtLimit};
 ghost use Rattle.sessions.specs.Promised.Subjects.{StaysOn};
 ghost use Rattle.session_inference.specs.Contexts.{LetsRest};
 ghost use Rattle.session_inference.specs.Primitives.{primitive_trees};
+ghost use Rattle.session_inference.specs.Shapes.{shaped_trees, takes};
 
 use crate::primitive::{Primitive, kind_of};
+use crate::shape::{Shape, shaped};
 use goal_frames::GoalHandler;
 use sessions::Session;
 use solver_graph::{SolverCx, context_laws};
+use type_terms::Fault;
 use type_terms::kinds::{Const, ConstKind, GenericArgKind, GenericArgs, Ty, TyKind};
-use type_terms::{AdtId, Fault};
 
 /// A type that was made, as a term.
 pub(crate) fn type_made(made: Result<Ty, Fault>) -> Result<GenericArgKind, Fault>
@@ -115,36 +118,52 @@ pub(crate) fn value_constant(
     const_made(const_in(&mut session.search.cx, ConstKind::Value(number)))
 }
 
-/// A struct with these arguments, over the interner of a context.
-fn struct_in<H: GoalHandler>(
+/// The type of this shape with these parts, over the interner of a context. `None` if the shape takes others.
+fn shaped_in<H: GoalHandler>(
     cx: &mut SolverCx<H>,
-    struct_id: AdtId,
-    args: Vec<GenericArgKind>,
-) -> Result<Ty, Fault>
+    shape: Shape,
+    parts: Vec<GenericArgKind>,
+) -> Result<Option<Ty>, Fault>
     requires ready { IsReady H.meaning.IsReady cx.old }
-    requires held { ArgsHeld cx.old.interner.entries args.items }
+    requires held { ArgsHeld cx.old.interner.entries parts.items }
     ensures advances { Advances H.meaning.IsReady cx.old cx.new }
-    ensures is { IfOk result (λ t. Is cx.new.interner.entries types t.0
-        (tree (adt struct_id.index) (args_trees cx.old.interner.entries args.items) none)) }
+    ensures is { IfOk result (λ o. IfSome o (λ t.
+        Is cx.new.interner.entries types t.0 (shaped_trees shape (args_trees cx.old.interner.entries parts.items)))) }
+    ensures takes { IfOk result (λ o. is_some o ≡ takes shape parts.items) }
     ensures full { IfErr result (FullAtLimit cx.new.interner) }
 {
     context_laws::<H>();
-    let args = args_in(cx, args)?;
-    ty_in(cx, TyKind::Adt(struct_id, args))
+    let made = shaped(cx.alloc, &mut cx.interner, shape, parts);
+    cx.interner.lawful();
+    made
 }
 
-/// A struct with these arguments.
-pub(crate) fn struct_type(
+/// A type that was made if a shape takes its parts, as a term.
+fn shaped_made(made: Result<Option<Ty>, Fault>) -> Result<Option<GenericArgKind>, Fault>
+    ensures ok { IfOk result (λ o. IfOk made (λ m. o ≡ option_map GenericArgKind.Ty m)) }
+    ensures both { OnOk result (IsOk made) }
+    ensures fault { IfErr result (λ e. made ≡ Err e) }
+{
+    match made {
+        Ok(None) => Ok(None),
+        Ok(Some(ty)) => Ok(Some(GenericArgKind::Ty(ty))),
+        Err(fault) => Err(fault),
+    }
+}
+
+/// The type of this shape with these parts, as a term. `None` if the shape takes others.
+pub(crate) fn shaped_type(
     session: &mut Session<'_>,
-    struct_id: AdtId,
-    args: Vec<GenericArgKind>,
-) -> Result<GenericArgKind, Fault>
-    requires { ArgsHeld session.old.terms args.items }
+    shape: Shape,
+    parts: Vec<GenericArgKind>,
+) -> Result<Option<GenericArgKind>, Fault>
+    requires { ArgsHeld session.old.terms parts.items }
     ensures stays { StaysOn session.old session.new }
     ensures rests { LetsRest session.old session.new }
-    ensures is { IfOk result (λ a. (arg_trees session.new.terms a
-        ≡ tree (adt struct_id.index) (args_trees session.old.terms args.items) none) × ArgHeld session.new.terms a) }
+    ensures is { IfOk result (λ o. IfSome o (λ a. (arg_trees session.new.terms a
+        ≡ shaped_trees shape (args_trees session.old.terms parts.items)) × ArgHeld session.new.terms a)) }
+    ensures takes { IfOk result (λ o. is_some o ≡ takes shape parts.items) }
     ensures full { IfErr result (SessionFullAtLimit session.new) }
 {
-    type_made(struct_in(&mut session.search.cx, struct_id, args))
+    shaped_made(shaped_in(&mut session.search.cx, shape, parts))
 }

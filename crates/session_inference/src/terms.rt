@@ -1,6 +1,6 @@
 //! Terms and their numbers.
 
-ghost use Rattle.std.specs.Prelude.{◌≡◌, ◌≤◌, ◌∷◌, ◌++◌, ◌⊎◌, [], Any, Some, Ok, Err, IfOk, IfErr, IsOk, IsErr, OnOk, OnErr, length, slice_get, map};
+ghost use Rattle.std.specs.Prelude.{◌≡◌, ◌≤◌, ◌∷◌, ◌++◌, ◌⊎◌, [], Any, None, Some, Ok, Err, IfOk, IfErr, IsOk, IsErr, OnOk, OnErr, length, slice_get, map};
 
 use crate::error::InferenceError;
 use crate::open_snapshot::OpenSnapshot;
@@ -34,6 +34,7 @@ pub(crate) fn terms_at(
     ensures there { IfOk result (λ list. map (λ id. slice_get terms.now id.index) ids.now ≡ map Some list.items) }
     ensures none { result ≡ Err InferenceError.NoSuchTerm → Any (λ id. length terms.now ≤ id.index) ids.now }
     ensures memory { (f : Fault) → result ≡ Err (InferenceError.Fault f) → f ≡ Fault.Memory }
+    ensures parts { result ≡ Err InferenceError.WrongParts → ⊥ }
 {
     let mut list = Vec::new(alloc);
     'ids: for id in ids {
@@ -95,4 +96,23 @@ pub(crate) fn opened(
 {
     snapshots.push(taken)?;
     Ok(())
+}
+
+/// The number of a term that was made if a shape takes its parts, behind the others.
+pub(crate) fn numbered_there(
+    terms: &mut Vec<GenericArgKind>,
+    made: Result<Option<GenericArgKind>, Fault>,
+) -> Result<TermId, InferenceError>
+    ensures number { IfOk result (λ id. id.index ≡ length terms.old.items) }
+    ensures added { IfOk result (λ id. (a : GenericArgKind) × (made ≡ Ok (Some a)) × (terms.new.items ≡ terms.old.items ++ a ∷ [])) }
+    ensures refused { OnErr result (terms.new.items ≡ terms.old.items) }
+    ensures fault { (f : Fault) → result ≡ Err (InferenceError.Fault f) → (f ≡ Fault.Memory) ⊎ (made ≡ Err f) }
+    ensures none { result ≡ Err InferenceError.WrongParts → made ≡ Ok None }
+    ensures terms { result ≡ Err InferenceError.NoSuchTerm → ⊥ }
+{
+    match made {
+        Err(fault) => Err(InferenceError::Fault(fault)),
+        Ok(None) => Err(InferenceError::WrongParts),
+        Ok(Some(term)) => given(numbered(terms, Ok(term))),
+    }
 }
