@@ -19,6 +19,8 @@ ghost use Rattle.coherence.specs.Groups.{IsAskedIn};
 ghost use Rattle.coherence.specs.KeptLines.{IsLineOf};
 ghost use Rattle.coherence.specs.KeptSessions.{AreLeftSessions};
 ghost use Rattle.coherence.specs.LineByLine.{IsVerdictLine};
+ghost use Rattle.session_inference.specs.LeftInferences.{IsLeftInference, inference_after};
+ghost use Rattle.coherence.specs.Inferring.{HasBegun};
 ghost use Rattle.coherence.specs.Queries.{HasNoQuery, IsNamedAnswer, IsProveQuery, IsQueryAt, IsRefuteQuery};
 
 use crate::ask_fault::AskFault;
@@ -27,6 +29,7 @@ use crate::lines::{question_line, verdict_line};
 use crate::listener::Nobody;
 use crate::named_answer::{NamedAnswer, named_answer};
 use crate::query::{ProveQuery, Query, RefuteQuery};
+use session_inference::{InferenceSession, LeftInference};
 use sessions::text_tables::{Asked, ENTRY_LIMIT, QuestionEntry, Workspace};
 use sessions::type_terms::{CrateId, Fault};
 use sessions::{Limits, RefuteAnswer, Session};
@@ -167,6 +170,24 @@ fn refute_answer(
     let answer = session.refute(query.number);
     kept.keep(session, &answer, 0);
     answer
+}
+
+/// What an inference session in a crate leaves, which nothing was asked yet.
+fn begin(
+    kept: &mut KeptSessions,
+    workspace: &Workspace,
+    id: CrateId,
+) -> Result<LeftInference, Fault>
+    requires parsed { IsOfText workspace.now }
+    requires declared { id.index < length workspace.now.crates }
+    requires left { AreLeftSessions workspace.now kept.old.limits kept.old.left.items }
+    ensures begun { IfOk result (HasBegun kept.old.limits.depth workspace.now id.index) }
+    ensures limits { kept.new.limits ≡ kept.old.limits }
+    ensures left { AreLeftSessions workspace.now kept.old.limits kept.new.left.items }
+{
+    let session = kept.resume(workspace, id)?;
+    let inference = InferenceSession::new(session);
+    Ok(inference.leave())
 }
 
 /// The crate in which a question is asked.
@@ -344,5 +365,33 @@ impl Asker {
         lines_behind_texts();
         let entry = query_behind(self.kept.alloc, &self.workspace, self.text_length, line)?;
         answer_behind(&mut self.kept, &mut self.workspace, entry, line.len())
+    }
+
+    /// Begins inference in a crate, over what is kept for it. [`Asker::inferring`] goes on with what it leaves, and [`Asker::keep`] keeps what
+    /// was found at the end.
+    ///
+    /// Fails with `Memory` if memory is refused, or with `Full` if a table is full.
+    pub fn begin_inference(&mut self, id: CrateId) -> Result<LeftInference, Fault>
+        requires { id.index < length self.old.declarations.crates }
+        ensures begun { IfOk result (HasBegun self.old.depth self.old.declarations id.index) }
+        ensures stays { self.new ≡ self.old }
+    {
+        begin(&mut self.kept, &self.workspace, id)
+    }
+
+    /// The inference session that goes on with what one on this text left.
+    pub fn inferring(&self, left: LeftInference) -> InferenceSession<'_>
+        requires { IsLeftInference self.now.declarations left }
+        ensures { result ≡ inference_after self.now.declarations left }
+    {
+        InferenceSession::resumed(&self.workspace, left)
+    }
+
+    /// Keeps what the searches of an inference session found, for later calls in its crate. Variables, goals and terms are dropped.
+    pub fn keep(&mut self, left: LeftInference)
+        requires { IsLeftInference self.old.declarations left }
+        ensures stays { self.new ≡ self.old }
+    {
+        self.kept.keep_inference(left);
     }
 }

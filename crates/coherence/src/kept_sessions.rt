@@ -4,8 +4,10 @@ ghost use Rattle.std.specs.Prelude.{◌≡◌, ◌<◌, [], length, IfOk, IfSome
 ghost use Rattle.sessions.specs.LeftSessions.{IsLeftSession};
 ghost use Rattle.sessions.specs.TextLanguage.Promised.Declarations.{Declarations};
 ghost use Rattle.sessions.specs.Promised.Subjects.{IsOfText};
+ghost use Rattle.session_inference.specs.LeftInferences.{IsLeftInference};
 ghost use Rattle.coherence.specs.KeptSessions.{AreLeftSessions};
 
+use session_inference::LeftInference;
 use sessions::text_tables::Workspace;
 use sessions::type_terms::{CrateId, Fault};
 use sessions::{LeftSession, Limits, Session};
@@ -140,6 +142,24 @@ impl KeptSessions {
         let mut left = session.leave();
         left.count(line_length.div_ceil(FRAME_BYTES) as u64);
         self.put(left);
+    }
+
+    /// Keeps what an inference session's searches found. Each of its terms counts as a frame.
+    pub fn keep_inference(&mut self, left: LeftInference)
+        ensures limits { self.new.limits ≡ self.old.limits }
+        ensures left { (d : Declarations) → AreLeftSessions d self.old.limits self.old.left.items → IsLeftInference d left
+            → AreLeftSessions d self.old.limits self.new.left.items }
+    {
+        if left.limits.depth != self.limits.depth {
+            return;
+        }
+        if left.limits.handles != self.limits.handles {
+            return;
+        }
+        let terms = left.term_count();
+        let mut session = left.into_left_session();
+        session.count(terms as u64);
+        self.put(session);
     }
 
     /// Keeps what a session left, as the latest. Drops it if it is too much alone, or if memory is refused. Drops the oldest until what is

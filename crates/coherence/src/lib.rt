@@ -27,6 +27,7 @@ pub use named_answer::NamedAnswer;
 pub use output_lines::OutputLines;
 pub use outputs::{Output, answer};
 pub use query::{ProveQuery, Query, RefuteQuery};
+pub use session_inference;
 pub use sessions::text_tables::Workspace;
 pub use sessions::type_terms::{CrateId, Fault, ImplId};
 pub use sessions::{
