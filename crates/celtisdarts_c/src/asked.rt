@@ -12,8 +12,8 @@ use coherence::{Asker, Limits, TextError};
 use std::alloc::{AllocError, Global};
 
 /// An empty slot, in a box.
-fn empty(alloc: Global) -> Result<Box<Slot>, AllocError> {
-    let boxed = Box::new(alloc, Slot { asker: None })?;
+pub(crate) fn empty(alloc: Global) -> Result<Box<Slot>, AllocError> {
+    let boxed = Box::new(alloc, Slot::empty())?;
     Ok(boxed)
 }
 
@@ -79,7 +79,7 @@ fn put_text(alloc: Global, handle: &mut Handle, asker: Asker) -> u32
     ensures put { result ≡ 0 → handle.new.value.asker ≡ Some asker }
     ensures stays { result ≢ 0 → handle.new.value ≡ handle.old.value }
 {
-    match Box::new(alloc, Slot { asker: Some(asker) }) {
+    match Box::new(alloc, Slot::of(asker)) {
         Err(_) => 3,
         Ok(boxed) => {
             let _ = handle.replace(boxed);
