@@ -7,10 +7,10 @@
  * Each call but celtisdarts_close returns a word (CELTISDARTS_..). After another word than CELTISDARTS_DONE all is as before, and
  * the call can be made again.
  *
- * A text, a line or a buffer may be null if its length is 0, and no other pointer may be. (The library takes no null pointer: the functions
- * at the end of this file pass another one. Where it is loaded at run time, by dlsym, nothing does.) A buffer may overlap nothing else that a
- * call is given. Two calls may run at once where they have no handle in common: the library writes to no global data. A call takes up to 3 KiB
- * of stack for each level of the depth, and 64 KiB more.
+ * A text, a line, a name, terms or a buffer may be null if its length is 0, and no other pointer may be. (The library takes no null pointer: the
+ * functions at the end of this file pass another one. Where it is loaded at run time, by dlsym, nothing does.) A buffer may overlap nothing else
+ * that a call is given. Two calls may run at once where they have no handle in common: the library writes to no global data. A call takes up to
+ * 3 KiB of stack for each level of the depth, and 64 KiB more.
  */
 #ifndef CELTISDARTS_H
 #define CELTISDARTS_H
@@ -48,10 +48,17 @@ enum {
     CELTISDARTS_SEVERAL_LINES = 7, /* the line holds a line feed */
     CELTISDARTS_TOO_LONG = 8,      /* the text and the line together are longer than 67,108,864 bytes */
     CELTISDARTS_NO_CRATE = 9,      /* the text has no crate of that number */
-    CELTISDARTS_NO_TEXT = 10       /* no text was read */
+    CELTISDARTS_NO_TEXT = 10,      /* no text was read */
+    CELTISDARTS_NO_CONTEXT = 11,   /* no inference context was begun */
+    CELTISDARTS_NO_TERM = 12,      /* no term, or no obligation, of the context has that number */
+    CELTISDARTS_NO_SOLUTION = 13,  /* no solution of all that was asked makes the terms equal */
+    CELTISDARTS_NO_NAME = 14,      /* the crate sees no struct, or no trait, of that name */
+    CELTISDARTS_WRONG_TERMS = 15,  /* other terms are taken: more, fewer, or of other kinds */
+    CELTISDARTS_NO_OPERATION = 16  /* there is no operation of that number */
 };
 
-/* A place for a text that is asked, and for what calls found, within bounds (docs/LIBRARY.md). It may move to another thread. */
+/* A place for a text that is asked, for an inference context, and for what calls found, within bounds (docs/LIBRARY.md). It may move to another
+ * thread. */
 typedef struct {
     void *at;
 } celtisdarts_handle;
@@ -82,6 +89,54 @@ uint32_t celtisdarts_check(celtisdarts_handle *handle, uint32_t number, uint8_t 
 CELTISDARTS_NONNULL
 uint32_t celtisdarts_ask(celtisdarts_handle *handle, const uint8_t *line, size_t line_length, uint8_t *buffer, size_t room, size_t *needed, uint32_t *number);
 
+/* ---- inference: at most one context a handle, beside its text
+ *
+ * A context has type variables, constant variables, terms and obligations, each by a number that calls give, and says what solves all that was
+ * asked of them. After another word than CELTISDARTS_DONE it is as before. What its searches find is kept with the text. */
+
+/* Begins a context of a crate, in the place of the handle's last one. Crates have the numbers of celtisdarts_name. */
+CELTISDARTS_NONNULL
+uint32_t celtisdarts_infer_begin(celtisdarts_handle *handle, uint32_t number);
+
+/* Ends the context: nothing has its numbers any more. */
+CELTISDARTS_NONNULL
+uint32_t celtisdarts_infer_end(celtisdarts_handle *handle);
+
+/* The operations of a context: what each takes, and what *given is then. Where nothing is taken, the length is 0, and a number is not looked at. */
+enum {
+    CELTISDARTS_INFER_FRESH_TYPE = 1,     /* gives a term: a new type variable */
+    CELTISDARTS_INFER_FRESH_CONST = 2,    /* gives a term: a new constant variable */
+    CELTISDARTS_INFER_TYPE = 3,           /* the name of a struct with its arguments, or of a type without parts, as u8: gives a term */
+    CELTISDARTS_INFER_CONSTANT = 4,       /* a number: gives a term */
+    CELTISDARTS_INFER_LIFETIME = 5,       /* gives a term: 'static, since answers hold up to lifetimes */
+    CELTISDARTS_INFER_TUPLE = 6,          /* types A, B, ..: gives a term (A, B, ..) */
+    CELTISDARTS_INFER_SLICE = 7,          /* a type T: gives a term [T] */
+    CELTISDARTS_INFER_ARRAY = 8,          /* a type T and a constant N: gives a term [T; N] */
+    CELTISDARTS_INFER_REFERENCE = 9,      /* a type T: gives a term &T */
+    CELTISDARTS_INFER_REFERENCE_MUT = 10, /* a type T: gives a term &mut T */
+    CELTISDARTS_INFER_POINTER = 11,       /* a type T: gives a term *const T */
+    CELTISDARTS_INFER_POINTER_MUT = 12,   /* a type T: gives a term *mut T */
+    CELTISDARTS_INFER_FUNCTION = 13,      /* the inputs A, B, .. and then the output C: gives a term fn(A, B, ..) -> C */
+    CELTISDARTS_INFER_EQ = 20,            /* two terms: makes them equal, or ends with CELTISDARTS_NO_SOLUTION */
+    CELTISDARTS_INFER_CAN_EQ = 21,        /* two terms: 1 if known values let them be equal, 0 if no solution does; changes nothing */
+    CELTISDARTS_INFER_REGISTER = 22,      /* the name of a trait, and its arguments, the self type first: gives an obligation, not evaluated */
+    CELTISDARTS_INFER_SELECT = 23,        /* 0 if all are done, 1 if some are pending, 2 + n if obligation n has no solution */
+    CELTISDARTS_INFER_STANDING = 24,      /* an obligation as the number: 0 done, 1 pending, 2 pending at a limit, 3 refused */
+    CELTISDARTS_INFER_RESOLVE = 25,       /* a term: gives a term in which each variable that has a value is replaced by it */
+    CELTISDARTS_INFER_SNAPSHOT = 26,      /* opens a snapshot */
+    CELTISDARTS_INFER_COMMIT = 27,        /* 1 if a snapshot was open: the last one ends, and what was done since stays; else 0 */
+    CELTISDARTS_INFER_ROLL_BACK = 28      /* 1 if a snapshot was open: all is as it was there, and later numbers are taken back; else 0 */
+};
+
+/* Does one operation of the context, with a name, with `count` terms by their numbers, and with a number. */
+CELTISDARTS_NONNULL
+uint32_t celtisdarts_infer(celtisdarts_handle *handle, uint32_t operation, const uint8_t *name, size_t name_length, const uint32_t *terms, size_t count, uint64_t number, uint32_t *given);
+
+/* Writes a term, as a type or a constant of a text; ?0t is a type variable without a value, and ?0c a constant variable. Lifetimes are not
+ * written. */
+CELTISDARTS_NONNULL
+uint32_t celtisdarts_infer_text(celtisdarts_handle *handle, uint32_t term, uint8_t *buffer, size_t room, size_t *needed);
+
 /* ---- null with length 0: calls by these names go through here */
 
 static inline const uint8_t *celtisdarts_bytes_(const uint8_t *bytes, size_t length) {
@@ -92,6 +147,11 @@ static inline const uint8_t *celtisdarts_bytes_(const uint8_t *bytes, size_t len
 static inline uint8_t *celtisdarts_room_(uint8_t *buffer, size_t room) {
     static uint8_t none;
     return buffer == NULL && room == 0 ? &none : buffer;
+}
+
+static inline const uint32_t *celtisdarts_terms_(const uint32_t *terms, size_t count) {
+    static const uint32_t none = 0;
+    return terms == NULL && count == 0 ? &none : terms;
 }
 
 static inline uint32_t celtisdarts_run_(const uint8_t *text, size_t text_length, uint32_t depth, uint8_t *buffer, size_t room, size_t *needed) {
@@ -116,11 +176,23 @@ static inline uint32_t celtisdarts_ask_(celtisdarts_handle *handle, const uint8_
     return celtisdarts_ask(handle, celtisdarts_bytes_(line, line_length), line_length, celtisdarts_room_(buffer, room), room, needed, number);
 }
 
+static inline uint32_t celtisdarts_infer_(celtisdarts_handle *handle, uint32_t operation, const uint8_t *name, size_t name_length,
+                                          const uint32_t *terms, size_t count, uint64_t number, uint32_t *given) {
+    return celtisdarts_infer(handle, operation, celtisdarts_bytes_(name, name_length), name_length, celtisdarts_terms_(terms, count), count,
+                             number, given);
+}
+
+static inline uint32_t celtisdarts_infer_text_(celtisdarts_handle *handle, uint32_t term, uint8_t *buffer, size_t room, size_t *needed) {
+    return celtisdarts_infer_text(handle, term, celtisdarts_room_(buffer, room), room, needed);
+}
+
 #define celtisdarts_run celtisdarts_run_
 #define celtisdarts_read celtisdarts_read_
 #define celtisdarts_name celtisdarts_name_
 #define celtisdarts_check celtisdarts_check_
 #define celtisdarts_ask celtisdarts_ask_
+#define celtisdarts_infer celtisdarts_infer_
+#define celtisdarts_infer_text celtisdarts_infer_text_
 
 #ifdef __cplusplus
 }

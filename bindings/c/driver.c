@@ -32,12 +32,12 @@ static void expect_text(const char *what, const uint8_t *found, size_t length, c
     }
 }
 
-typedef enum { NAME, CHECK, ASK, RUN } kind;
+typedef enum { NAME, CHECK, ASK, RUN, TERM } kind;
 
 typedef struct {
     kind kind;
     celtisdarts_handle *handle;
-    uint32_t number; /* of a crate, or the depth */
+    uint32_t number; /* of a crate or a term, or the depth */
     const char *text;
 } call;
 
@@ -50,6 +50,7 @@ static uint32_t make(call it, uint8_t *buffer, size_t room, size_t *needed, uint
     case CHECK: word = celtisdarts_check(it.handle, it.number, buffer, room, needed); break;
     case ASK: word = celtisdarts_ask(it.handle, text, length, buffer, room, needed, fault); break;
     case RUN: word = celtisdarts_run(text, length, it.number, buffer, room, needed); break;
+    case TERM: word = celtisdarts_infer_text(it.handle, it.number, buffer, room, needed); break;
     }
     free(text);
     return word;
@@ -117,6 +118,81 @@ static void takes_null(celtisdarts_handle *handle) {
     expect("no line, and no buffer", celtisdarts_ask(handle, NULL, 0, NULL, 0, &needed, &number), CELTISDARTS_NOT_A_QUERY);
 }
 
+/* An operation, with a null where there is no name or no term. */
+static uint32_t infers(celtisdarts_handle *handle, uint32_t operation, const char *name, const uint32_t *terms, size_t count, uint32_t *given) {
+    size_t length = name == NULL ? 0 : strlen(name);
+    uint8_t *bytes = name == NULL ? NULL : block(name, length);
+    uint32_t *taken = count == 0 ? NULL : (uint32_t *)block((const char *)terms, count * sizeof *terms);
+    uint32_t word = celtisdarts_infer(handle, operation, bytes, length, taken, count, 0, given);
+    free(bytes);
+    free(taken);
+    return word;
+}
+
+/* The operation gives this. */
+static void gives(const char *what, celtisdarts_handle *handle, uint32_t operation, const char *name, const uint32_t *terms, size_t count,
+                  uint32_t wanted) {
+    uint32_t given = UINT32_MAX;
+    expect(what, infers(handle, operation, name, terms, count, &given), CELTISDARTS_DONE);
+    expect("what it gives", given, wanted);
+}
+
+static void gives_no(const char *what, celtisdarts_handle *handle, uint32_t operation, const char *name, const uint32_t *terms, size_t count,
+                     uint32_t wanted) {
+    uint32_t given = UINT32_MAX;
+    expect(what, infers(handle, operation, name, terms, count, &given), wanted);
+}
+
+static void has_no_context(celtisdarts_handle *handle, uint32_t wanted) {
+    size_t needed = 0;
+    gives_no("no context infers", handle, CELTISDARTS_INFER_FRESH_TYPE, NULL, NULL, 0, wanted);
+    expect("no context is ended", celtisdarts_infer_end(handle), wanted);
+    expect("no context has a term", celtisdarts_infer_text(handle, 0, NULL, 0, &needed), wanted);
+}
+
+/* `fn(u8) -> u8: Fn<?0t>`, which decides the variable. */
+static void infers_a_type(celtisdarts_handle *handle) {
+    static const uint32_t zero = 0, one = 1, three = 3, four = 4;
+    static const uint32_t bytes[] = {1, 1}, asked[] = {2, 0}, unknown[] = {3, 99}, unequal[] = {0, 1};
+    gives("a variable", handle, CELTISDARTS_INFER_FRESH_TYPE, NULL, NULL, 0, 0);
+    gives("a type", handle, CELTISDARTS_INFER_TYPE, "u8", NULL, 0, 1);
+    gives("a function", handle, CELTISDARTS_INFER_FUNCTION, NULL, bytes, 2, 2);
+    gives("a snapshot", handle, CELTISDARTS_INFER_SNAPSHOT, NULL, NULL, 0, 0);
+    gives("a bound", handle, CELTISDARTS_INFER_REGISTER, "Fn", asked, 2, 0);
+    gives("it is pending", handle, CELTISDARTS_INFER_STANDING, NULL, NULL, 0, 1);
+    gives("all are done", handle, CELTISDARTS_INFER_SELECT, NULL, NULL, 0, 0);
+    gives("it is done", handle, CELTISDARTS_INFER_STANDING, NULL, NULL, 0, 0);
+    gives("a value", handle, CELTISDARTS_INFER_RESOLVE, NULL, &zero, 1, 3);
+    gives("a constant", handle, CELTISDARTS_INFER_CONSTANT, NULL, NULL, 0, 4);
+    writes("the value", (call){TERM, handle, 3, NULL}, CELTISDARTS_DONE, "(u8,)");
+    gives_no("an unknown term", handle, CELTISDARTS_INFER_EQ, NULL, unknown, 2, CELTISDARTS_NO_TERM);
+    gives_no("no solution", handle, CELTISDARTS_INFER_EQ, NULL, unequal, 2, CELTISDARTS_NO_SOLUTION);
+    gives_no("an unseen name", handle, CELTISDARTS_INFER_TYPE, "V", &one, 1, CELTISDARTS_NO_NAME);
+    gives_no("no name", handle, CELTISDARTS_INFER_TYPE, NULL, NULL, 0, CELTISDARTS_NO_NAME);
+    gives_no("no terms", handle, CELTISDARTS_INFER_SLICE, NULL, NULL, 0, CELTISDARTS_WRONG_TERMS);
+    gives_no("a constant is no type", handle, CELTISDARTS_INFER_SLICE, NULL, &four, 1, CELTISDARTS_WRONG_TERMS);
+    gives_no("no operation", handle, 0, NULL, NULL, 0, CELTISDARTS_NO_OPERATION);
+    gives_no("no operation", handle, UINT32_MAX, "V", &three, 1, CELTISDARTS_NO_OPERATION);
+    refuses("an unknown term", (call){TERM, handle, 99, NULL}, CELTISDARTS_NO_TERM, 0);
+    gives("it is rolled back", handle, CELTISDARTS_INFER_ROLL_BACK, NULL, NULL, 0, 1);
+    gives("no value", handle, CELTISDARTS_INFER_RESOLVE, NULL, &zero, 1, 3);
+    writes("no value", (call){TERM, handle, 3, NULL}, CELTISDARTS_DONE, "?0t");
+    refuses("a term that was taken back", (call){TERM, handle, 4, NULL}, CELTISDARTS_NO_TERM, 0);
+}
+
+static void has_contexts(celtisdarts_handle *handle) {
+    has_no_context(handle, CELTISDARTS_NO_CONTEXT);
+    expect("a context of no crate", celtisdarts_infer_begin(handle, 3), CELTISDARTS_NO_CRATE);
+    for (int times = 0; times < 3; times++) {
+        expect("a context is begun", celtisdarts_infer_begin(handle, 1), CELTISDARTS_DONE);
+        infers_a_type(handle);
+        asks(handle);
+    }
+    expect("a context is ended", celtisdarts_infer_end(handle), CELTISDARTS_DONE);
+    has_no_context(handle, CELTISDARTS_NO_CONTEXT);
+    expect("a context is left open", celtisdarts_infer_begin(handle, 2), CELTISDARTS_DONE);
+}
+
 static celtisdarts_handle opened(void) {
     celtisdarts_handle handle = {NULL};
     expect("a handle is made", celtisdarts_new(&handle.at), CELTISDARTS_DONE);
@@ -139,6 +215,8 @@ int main(void) {
     refuses("nothing was read, and a name is asked", (call){NAME, &handle, 0, NULL}, CELTISDARTS_NO_TEXT, 0);
     refuses("nothing was read, and a crate is checked", (call){CHECK, &handle, 0, NULL}, CELTISDARTS_NO_TEXT, 0);
     refuses("nothing was read, and a line is asked", (call){ASK, &handle, 0, "prove in a u8: Show"}, CELTISDARTS_NO_TEXT, 0);
+    expect("nothing was read, and a context is begun", celtisdarts_infer_begin(&handle, 0), CELTISDARTS_NO_TEXT);
+    has_no_context(&handle, CELTISDARTS_NO_TEXT);
     for (int times = 0; times < 3; times++) {
         reads(&handle, TEXT, 8, CELTISDARTS_DONE, 0, 0);
         asks(&handle);
@@ -147,6 +225,7 @@ int main(void) {
         reads(&handle, TEXT, 256, CELTISDARTS_NO_DEPTH, 0, 0);
         asks(&handle);
         asks_a_long_line(&handle);
+        has_contexts(&handle);
     }
     takes_null(&handle);
     expect("the version of the calls", celtisdarts_abi_version, CELTISDARTS_ABI_VERSION);

@@ -52,6 +52,56 @@ static uint32_t asks(void) {
     return celtisdarts_ask(&handle, (const uint8_t *)LINE, strlen(LINE), buffer, sizeof buffer, &needed, &number);
 }
 
+/* The name of a type or a trait, with terms, in the context of the handle. */
+static uint32_t infers(uint32_t operation, const char *name, const uint32_t *terms, size_t count) {
+    uint32_t given;
+    return celtisdarts_infer(&handle, operation, (const uint8_t *)name, strlen(name), terms, count, 0, &given);
+}
+
+static uint32_t begins(void) {
+    uint32_t word = reads();
+    return word != CELTISDARTS_DONE ? word : celtisdarts_infer_begin(&handle, 2);
+}
+
+/* Bounds of term 0, a variable, and of term 1, a struct over it. */
+static uint32_t registers(void) {
+    static const uint32_t terms[] = {0, 1};
+    uint32_t word = begins();
+    if (word == CELTISDARTS_DONE) word = infers(CELTISDARTS_INFER_FRESH_TYPE, "", NULL, 0);
+    if (word == CELTISDARTS_DONE) word = infers(CELTISDARTS_INFER_TYPE, "V", terms, 1);
+    if (word == CELTISDARTS_DONE) word = infers(CELTISDARTS_INFER_SNAPSHOT, "", NULL, 0);
+    if (word == CELTISDARTS_DONE) word = infers(CELTISDARTS_INFER_REGISTER, "Show", terms + 1, 1);
+    return word == CELTISDARTS_DONE ? infers(CELTISDARTS_INFER_REGISTER, "Show", terms, 1) : word;
+}
+
+static uint32_t selects(void) {
+    return infers(CELTISDARTS_INFER_SELECT, "", NULL, 0);
+}
+
+static uint32_t selects_first(void) {
+    uint32_t word = registers();
+    return word == CELTISDARTS_DONE ? selects() : word;
+}
+
+static uint32_t resolves(void) {
+    static const uint32_t terms[] = {1};
+    return infers(CELTISDARTS_INFER_RESOLVE, "", terms, 1);
+}
+
+static uint32_t writes(void) {
+    return celtisdarts_infer_text(&handle, 1, buffer, sizeof buffer, &needed);
+}
+
+static uint32_t equates(void) {
+    static const uint32_t terms[] = {0, 2};
+    uint32_t word = infers(CELTISDARTS_INFER_TYPE, "u8", NULL, 0);
+    return word == CELTISDARTS_DONE ? infers(CELTISDARTS_INFER_EQ, "", terms, 2) : word;
+}
+
+static uint32_t rolls_back(void) {
+    return infers(CELTISDARTS_INFER_ROLL_BACK, "", NULL, 0);
+}
+
 static uint32_t runs(void) {
     return celtisdarts_run((const uint8_t *)TEXT, strlen(TEXT), 8, buffer, sizeof buffer, &needed);
 }
@@ -104,6 +154,13 @@ int main(void) {
     wrong |= tries("a crate is checked again", checks, checks, "crate a: overlap impl 2 with a 1\n");
     wrong |= tries("a line is asked", reads, asks, "prove 1: yes ?x = (V<u8>,)\n");
     wrong |= tries("a line is asked again", asks, asks, "prove 1: yes ?x = (V<u8>,)\n");
+    wrong |= tries("a context is begun", NULL, begins, "");
+    wrong |= tries("bounds are registered", NULL, registers, "");
+    wrong |= tries("bounds are selected", registers, selects, "");
+    wrong |= tries("a term is resolved", selects_first, resolves, "");
+    wrong |= tries("a term is written", registers, writes, "V<?0t>");
+    wrong |= tries("terms are equated", registers, equates, "");
+    wrong |= tries("a context is rolled back", selects_first, rolls_back, "");
     celtisdarts_close(handle);
     wrong |= tries("a text is answered", NULL, runs, "crate base: accepted\ncrate a: overlap impl 2 with a 1\n");
     return wrong;

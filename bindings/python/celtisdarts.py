@@ -7,7 +7,8 @@
     print(session.check_crate(), session.prove("u8: Show"), session.prove("fn(u8): Fn<?x>"))    # accepted yes yes ?x = (u8,)
 
 A text of crates is read once, as a `Workspace`, and then asked at run time, by a `Session` for a crate. `run` answers a whole text in one
-call. The language of texts and the meaning of each answer stand in docs/FORMAT.md of the repository.
+call. The language of texts and the meaning of each answer stand in docs/FORMAT.md of the repository. A session's `infer` gives an `Infer`, a
+context of inference variables and goals that have to hold together, as a type checker keeps one for each function.
 
 An answer has no truth value, since `Unproved` and `Maybe` do not say that a reference does not hold: `if session.prove(..)` raises TypeError.
 Compare answers, or write `isinstance(answer, Yes)` or `match`.
@@ -24,6 +25,7 @@ from __future__ import annotations
 
 import argparse
 import ctypes
+import enum
 import functools
 import itertools
 import os
@@ -31,11 +33,12 @@ import subprocess
 import sys
 import threading
 from concurrent.futures import ThreadPoolExecutor
-from ctypes import POINTER, byref, c_char, c_char_p, c_size_t, c_uint32, c_void_p
+from contextlib import contextmanager
+from ctypes import POINTER, byref, c_char, c_char_p, c_size_t, c_uint32, c_uint64, c_void_p
 from dataclasses import dataclass, field
 from pathlib import Path
 from types import TracebackType
-from typing import Any, Callable, Iterator, NoReturn, Optional, Sequence, TypeVar, Union
+from typing import Any, Callable, Iterable, Iterator, NoReturn, Optional, Sequence, Tuple, TypeVar, Union
 
 __version__ = "0.1.0"
 
@@ -280,9 +283,25 @@ class TableFull(CeltisdartsError):
     """A table of terms, of goals or of answers was full."""
 
 
+class NoSuchTerm(CeltisdartsError):
+    """A rollback took this term, or this obligation, back."""
+
+
+class NoSolution(CeltisdartsError):
+    """No solution of all that was asked makes the terms equal."""
+
+
+class NoSuchName(CeltisdartsError):
+    """The crate sees no struct, or no trait, of that name."""
+
+
+class WrongTerms(CeltisdartsError):
+    """Other terms are taken: more, fewer, or of other kinds."""
+
+
 # ---- the library's calls
 
-DONE, FAULT, TOO_SHORT, NO_CRATE = 0, 1, 5, 9
+DONE, FAULT, TOO_SHORT, NO_CRATE, NO_TERM = 0, 1, 5, 9, 12
 REFUSALS: dict[int, tuple[type[CeltisdartsError], str]] = {
     3: (OutOfMemory, "out of memory"),
     4: (TableFull, "a table is full"),
@@ -290,6 +309,10 @@ REFUSALS: dict[int, tuple[type[CeltisdartsError], str]] = {
     7: (SeveralLines, "the question is several lines"),
     8: (TooLong, "text and question are longer than 67,108,864 bytes"),
     9: (NoSuchCrate, "the text declares no such crate"),
+    12: (NoSuchTerm, "a rollback took a term or an obligation back"),
+    13: (NoSolution, "no solution of all that was asked makes the terms equal"),
+    14: (NoSuchName, "the crate sees no struct or no trait of that name"),
+    15: (WrongTerms, "other terms are taken: more, fewer, or of other kinds"),
 }
 
 
@@ -306,6 +329,7 @@ class Handle(ctypes.Structure):
 
 
 READ = c_char_p
+NUMBERS = POINTER(c_uint32)  # that are read
 WRITTEN = POINTER(c_char)
 # As the library defines them, which a test of bindings/rust compares.
 CALLS: dict[str, tuple[list[Any], Any]] = {
@@ -316,7 +340,38 @@ CALLS: dict[str, tuple[list[Any], Any]] = {
     "celtisdarts_name": ([POINTER(Handle), c_uint32, WRITTEN, c_size_t, POINTER(c_size_t)], c_uint32),
     "celtisdarts_check": ([POINTER(Handle), c_uint32, WRITTEN, c_size_t, POINTER(c_size_t)], c_uint32),
     "celtisdarts_ask": ([POINTER(Handle), READ, c_size_t, WRITTEN, c_size_t, POINTER(c_size_t), POINTER(c_uint32)], c_uint32),
+    "celtisdarts_infer_begin": ([POINTER(Handle), c_uint32], c_uint32),
+    "celtisdarts_infer_end": ([POINTER(Handle)], c_uint32),
+    "celtisdarts_infer": ([POINTER(Handle), c_uint32, READ, c_size_t, NUMBERS, c_size_t, c_uint64, POINTER(c_uint32)], c_uint32),
+    "celtisdarts_infer_text": ([POINTER(Handle), c_uint32, WRITTEN, c_size_t, POINTER(c_size_t)], c_uint32),
 }
+
+
+class Operation(enum.IntEnum):
+    """What `celtisdarts_infer` does with a context."""
+
+    FRESH_TYPE = 1
+    FRESH_CONST = 2
+    TYPE = 3
+    CONSTANT = 4
+    LIFETIME = 5
+    TUPLE = 6
+    SLICE = 7
+    ARRAY = 8
+    REFERENCE = 9
+    REFERENCE_MUT = 10
+    POINTER = 11
+    POINTER_MUT = 12
+    FUNCTION = 13
+    EQ = 20
+    CAN_EQ = 21
+    REGISTER = 22
+    SELECT = 23
+    STANDING = 24
+    RESOLVE = 25
+    SNAPSHOT = 26
+    COMMIT = 27
+    ROLL_BACK = 28
 
 
 @functools.lru_cache(maxsize=None)
@@ -333,7 +388,9 @@ def library() -> ctypes.CDLL:
     if version != ABI_VERSION:
         raise ImportError(f"{path} has version {version} of the calls, and this module is for {ABI_VERSION}")
     for name, (params, result) in CALLS.items():
-        call = getattr(found, name)
+        call = getattr(found, name, None)
+        if call is None:
+            raise ImportError(f"{path} has no {name}: it is older than this module")
         call.argtypes, call.restype = params, result
     return found
 
@@ -538,17 +595,21 @@ class Asker:
         if word != DONE:
             raise refusal(word)
 
-    def call(self, call: Callable[[Buffer, c_size_t, Any], int]) -> tuple[int, str]:
-        """Makes a call that writes. (A call lets other threads run: the lock keeps these from the handle. It is the calling thread's, so that
-        it stays where who waits for that one is interrupted.)"""
+    def alone(self, call: Callable[[], T]) -> T:
+        """Makes a call. (It lets other threads run: the lock keeps these from the handle. It is the calling thread's, so that it stays where
+        who waits for that one is interrupted.)"""
 
-        def locked() -> tuple[int, str]:
+        def locked() -> T:
             with self.lock:
                 if not self.handle.at:
                     raise ValueError("the text is closed")
-                return self.room.written(call)
+                return call()
 
         return on_stack(self.depth, locked)
+
+    def call(self, call: Callable[[Buffer, c_size_t, Any], int]) -> tuple[int, str]:
+        """Makes a call that writes."""
+        return self.alone(lambda: self.room.written(call))
 
     def name(self, number: int) -> Optional[str]:
         word, name = self.call(lambda at, size, needed: library().celtisdarts_name(self.handle, number, at, size, needed))
@@ -601,17 +662,20 @@ KEPT_CRATES = 16
 KEPT_BYTES = 4 << 20
 
 
+Reading = Tuple[Asker, "set[int]"]
+
+
 class Readings:
     """A text that is read once more only for calls that are made at once, or for more crates than one reading keeps. There are at most as many
-    readings as sessions or calls at once, and one."""
+    readings as sessions, calls and contexts at once, and one."""
 
     def __init__(self, text: bytes, depth: int) -> None:
         self.text, self.depth, self.lock, self.sessions = text, depth, threading.Lock(), 0
         self.most = min(max(1, KEPT_BYTES // max(1, len(text))), KEPT_CRATES)
         # Those that no call uses now, the latest last, each with the crates in which it was asked.
-        self.idle: list[tuple[Asker, set[int]]] = [(Asker(text, depth), set())]
+        self.idle: list[Reading] = [(Asker(text, depth), set())]
 
-    def found(self, number: int) -> Optional[tuple[Asker, set[int]]]:
+    def found(self, number: int) -> Optional[Reading]:
         """An idle reading for a crate: one that was asked in it, one that keeps a further crate, or the oldest if there are enough for all
         sessions."""
         with self.lock:
@@ -623,15 +687,23 @@ class Readings:
                 return self.idle.pop(0)[0], set()
         return None
 
-    def ask(self, number: int, call: Callable[[Asker], T]) -> T:
-        """Makes a call about a crate with a reading that no other call uses, and keeps that for later ones."""
+    def take(self, number: int) -> Reading:
+        """A reading for a crate that nothing else uses until it is given back."""
         asker, crates = self.found(number) or (Asker(self.text, self.depth), set())
         crates.add(number)
+        return asker, crates
+
+    def give_back(self, reading: Reading) -> None:
+        # (Without the lock, which the thread may hold that collects a context. An append is one step, and moves no other reading.)
+        self.idle.append(reading)
+
+    def ask(self, number: int, call: Callable[[Asker], T]) -> T:
+        """Makes a call about a crate with a reading that no other call uses, and keeps that for later ones."""
+        reading = self.take(number)
         try:
-            return call(asker)
+            return call(reading[0])
         finally:
-            with self.lock:
-                self.idle.append((asker, crates))
+            self.give_back(reading)
 
     def enter(self) -> None:
         with self.lock:
@@ -718,11 +790,14 @@ class Session:
     def __exit__(self, kind: Optional[type[BaseException]], error: Optional[BaseException], trace: Optional[TracebackType]) -> None:
         self.close()
 
-    def asked(self, call: Callable[[Asker], str]) -> str:
+    def opened(self) -> Readings:
         readings = self.readings
         if not readings:
             raise ValueError("the session is closed")
-        return readings.ask(self.number, call)
+        return readings
+
+    def asked(self, call: Callable[[Asker], str]) -> str:
+        return self.opened().ask(self.number, call)
 
     def check_crate(self) -> Verdict:
         """Whether the crate is coherent with those that it uses. Raises OutOfMemory and TableFull."""
@@ -746,6 +821,336 @@ class Session:
         text with this line behind it. Raises what `prove` raises, and NotAQuery."""
         asked = to_line(line)
         return read_line(self.asked(lambda asker: asker.ask(asked))).answer  # type: ignore[return-value]
+
+    def infer(self) -> Infer:
+        """An inference context of the crate, without variables and goals. It takes a reading of the text for itself until it is closed, and
+        stays usable when the session is closed. Raises OutOfMemory and TableFull."""
+        return Infer(self.opened(), self.number, self.crate_name)
+
+
+# ---- inference
+
+
+@dataclass(frozen=True)
+class Numbered:
+    """What a context has by number. Two are equal if one call gave them. It keeps its context."""
+
+    context: Infer = field(repr=False)
+    number: int
+    # Which of all that the context gave it is.
+    serial: int = field(repr=False)
+
+
+@dataclass(frozen=True)
+class Term(Numbered):
+    """A type, a constant or a lifetime of an inference context, printed as that displays it. Terms of several calls are not equal, also where
+    they stand for one type: `Infer.eq` and `Infer.can_eq` are about types."""
+
+    def __str__(self) -> str:
+        return self.context.display(self)
+
+
+@dataclass(frozen=True)
+class Obligation(Numbered):
+    """A goal that was registered with an inference context."""
+
+
+N = TypeVar("N", bound=Numbered)
+
+
+@dataclass(frozen=True)
+class AllDone(WithoutTruthValue):
+    """Each obligation is done."""
+
+    def __str__(self) -> str:
+        return "all done"
+
+
+@dataclass(frozen=True)
+class Pending(WithoutTruthValue):
+    """Some obligation is pending, and selecting once more fixes nothing new."""
+
+    def __str__(self) -> str:
+        return "pending"
+
+
+@dataclass(frozen=True)
+class Refused(WithoutTruthValue):
+    """This obligation was refused: there is no solution of all that was asked."""
+
+    obligation: Obligation
+
+    def __str__(self) -> str:
+        return f"refused {self.obligation.number}"
+
+
+Selected = Union[AllDone, Pending, Refused]
+
+
+class Standing(enum.Enum):
+    """How an obligation stands. Only `TOO_DEEP` says that a limit was reached."""
+
+    # It has a proof by what the crate sees, at each solution that is left.
+    DONE = 0
+    # It is pending: more values may decide it, or it was not selected yet.
+    AMBIGUOUS = 1
+    # It is pending, since the search reached a limit.
+    TOO_DEEP = 2
+    # It has no proof at any solution.
+    REFUSED = 3
+
+    def __bool__(self) -> NoReturn:
+        raise TypeError(f"the standing {self.name} has no truth value: compare it, as by `is Standing.DONE`")
+
+
+def to_name(name: str) -> bytes:
+    if not isinstance(name, str):
+        raise TypeError(f"a name is str, and not {type(name).__name__}")
+    return to_bytes(name)
+
+
+def as_mutable(mutable: bool) -> bool:
+    if not isinstance(mutable, bool):
+        raise TypeError(f"`mutable` is bool, and not {type(mutable).__name__}")
+    return mutable
+
+
+class Infer:
+    """An inference context of one crate of a text: variables with their values, and goals that have to hold together.
+
+    A type checker makes a variable for each type that it does not know, makes types equal, registers the bounds that have to hold, selects them,
+    and resolves the variables:
+
+        with session.infer() as context:
+            unknown = context.fresh_ty()
+            context.register("Into", context.ty("Str"), unknown)
+            print(context.select_where_possible(), context.resolve(unknown))
+
+    No solution of all that was asked is lost, and what is done has a proof by what the crate sees at each solution that is left. `NoSolution`, a
+    refused obligation and a `can_eq` that is false say that there is no solution.
+
+    Terms and obligations are of the context that gave them: those of another raise ValueError. What a rollback took back raises NoSuchTerm, also
+    where the library has given its number anew. Lifetimes are not told apart.
+
+    It has a reading of the text for itself, so it changes no answer of the session. `close`, the end of a `with` block, or that it is collected,
+    ends it and gives the reading to later calls, with what was found. A call behind that raises ValueError. Each call may raise OutOfMemory and
+    TableFull, and after any error the context is as before, but for what a search had found. Threads may share it, and its calls are made one
+    after the other. Snapshots are of the context and not of a thread, so a rollback takes back what all threads did. It cannot be copied.
+    """
+
+    def __init__(self, readings: Readings, number: int, crate_name: str) -> None:
+        self.crate_name, self.readings = crate_name, readings
+        # By kind and number: which has the number now. A rollback takes numbers back. Until the library gives them anew, it refuses them itself.
+        self.latest: dict[tuple[type[Numbered], int], int] = {}
+        self.serials, self.snapshots = itertools.count(), 0
+        self.reading: Optional[Reading] = None
+        reading = readings.take(number)
+        try:
+            self.begin(reading[0], number)
+            self.reading = reading
+        finally:
+            if not self.reading:
+                readings.give_back(reading)
+
+    def begin(self, asker: Asker, number: int) -> None:
+        word = asker.alone(lambda: library().celtisdarts_infer_begin(asker.handle, number))
+        if word != DONE:
+            raise refusal(word)
+
+    def close(self) -> None:
+        """Ends the context. Nothing can be asked behind it, and it may be called again."""
+        reading = self.reading
+        if reading and self.ended(reading[0]):
+            self.readings.give_back(reading)
+
+    def ended(self, asker: Asker) -> bool:
+        """Ends the context, once. Whether its reading can be used further. (On the caller's thread, as whatever is let go.)"""
+        with asker.lock:
+            is_open, self.reading = self.reading is not None, None
+            return is_open and library().celtisdarts_infer_end(asker.handle) == DONE
+
+    def __del__(self) -> None:
+        if hasattr(self, "reading"):
+            self.close()
+
+    def __reduce__(self) -> NoReturn:
+        raise TypeError("an inference context cannot be copied: make another one of the session")
+
+    def __enter__(self) -> Infer:
+        return self
+
+    def __exit__(self, kind: Optional[type[BaseException]], error: Optional[BaseException], trace: Optional[TracebackType]) -> None:
+        self.close()
+
+    def alone(self, call: Callable[[Asker], T]) -> T:
+        """Makes a call while no other one is made."""
+        reading = self.reading
+        if not reading:
+            raise ValueError("the context is closed")
+        asker = reading[0]
+
+        def checked() -> T:
+            if not self.reading:  # closed by another thread
+                raise ValueError("the context is closed")
+            return call(asker)
+
+        return asker.alone(checked)
+
+    def own(self, kind: type[N], it: N) -> N:
+        if not isinstance(it, kind):
+            raise TypeError(f"an argument is {kind.__name__}, and not {type(it).__name__}")
+        if it.context is not self:
+            raise ValueError(f"the {kind.__name__.lower()} is of another context")
+        return it
+
+    def known(self, it: Numbered) -> int:
+        """The number of what has it still."""
+        if self.latest.get((type(it), it.number)) != it.serial:
+            raise refusal(NO_TERM)
+        return it.number
+
+    def new(self, kind: type[N], number: int) -> N:
+        serial = self.latest[kind, number] = next(self.serials)
+        return kind(self, number, serial)
+
+    def new_term(self, number: int) -> Term:
+        return self.new(Term, number)
+
+    def operate(self, operation: Operation, note: Callable[[int], T], terms: Sequence[Term] = (), name: bytes = b"", number: int = 0) -> T:
+        """Makes an operation, and returns what is noted of that which it gives."""
+        taken = [self.own(Term, it) for it in terms]
+        return self.alone(lambda asker: self.operated(asker, operation, note, [self.known(it) for it in taken], name, number))
+
+    def operated(
+        self, asker: Asker, operation: Operation, note: Callable[[int], T], terms: Sequence[int] = (), name: bytes = b"", number: int = 0
+    ) -> T:
+        numbers, given = (c_uint32 * len(terms))(*terms), c_uint32(0)
+        word = library().celtisdarts_infer(asker.handle, operation, name, len(name), numbers, len(terms), number, byref(given))
+        if word != DONE:
+            raise refusal(word)
+        return note(given.value)
+
+    def fresh_ty(self) -> Term:
+        """A new type variable."""
+        return self.operate(Operation.FRESH_TYPE, self.new_term)
+
+    def fresh_const(self) -> Term:
+        """A new constant variable."""
+        return self.operate(Operation.FRESH_CONST, self.new_term)
+
+    def ty(self, name: str, *args: Term) -> Term:
+        """A type by its name: a struct that the crate sees, with its arguments, or a type without parts, as `u8`, `str` and `!`. Raises NoSuchName
+        and WrongTerms."""
+        return self.operate(Operation.TYPE, self.new_term, args, to_name(name))
+
+    def constant(self, number: int) -> Term:
+        """A constant. Raises ValueError where that has more than 64 bits or is negative."""
+        if not isinstance(number, int):
+            raise TypeError(f"a constant is int, and not {type(number).__name__}")
+        if not 0 <= number < 1 << 64:
+            raise ValueError(f"a constant is from 0 to {(1 << 64) - 1}, and not {number}")
+        return self.operate(Operation.CONSTANT, self.new_term, number=number)
+
+    def lifetime(self) -> Term:
+        """The lifetime `'static`, for arguments that are lifetimes."""
+        return self.operate(Operation.LIFETIME, self.new_term)
+
+    def tuple(self, *types: Term) -> Term:
+        """The tuple of these types. Raises WrongTerms."""
+        return self.operate(Operation.TUPLE, self.new_term, types)
+
+    def slice(self, ty: Term) -> Term:
+        """The type `[T]`. Raises WrongTerms."""
+        return self.operate(Operation.SLICE, self.new_term, [ty])
+
+    def array(self, ty: Term, constant: Term) -> Term:
+        """The type `[T; N]`. Raises WrongTerms."""
+        return self.operate(Operation.ARRAY, self.new_term, [ty, constant])
+
+    def reference(self, ty: Term, mutable: bool = False) -> Term:
+        """The type `&T`, or `&mut T`. Raises WrongTerms."""
+        return self.operate(Operation.REFERENCE_MUT if as_mutable(mutable) else Operation.REFERENCE, self.new_term, [ty])
+
+    def pointer(self, ty: Term, mutable: bool = False) -> Term:
+        """The type `*const T`, or `*mut T`. Raises WrongTerms."""
+        return self.operate(Operation.POINTER_MUT if as_mutable(mutable) else Operation.POINTER, self.new_term, [ty])
+
+    def function(self, inputs: Iterable[Term], output: Term) -> Term:
+        """The type `fn(A, B) -> C`. Raises WrongTerms."""
+        return self.operate(Operation.FUNCTION, self.new_term, [*inputs, output])
+
+    def eq(self, left: Term, right: Term) -> None:
+        """Makes two terms equal. Raises NoSolution if no solution of all that was asked does."""
+        self.operate(Operation.EQ, int, [left, right])
+
+    def can_eq(self, left: Term, right: Term) -> bool:
+        """Whether two terms can be equal, by the values of variables that are known. No goal is selected, and nothing changes."""
+        return self.operate(Operation.CAN_EQ, bool, [left, right])
+
+    def register(self, trait: str, *args: Term) -> Obligation:
+        """Registers the goal that these terms implement this trait, the self type first. Nothing is evaluated yet. Raises NoSuchName and
+        WrongTerms."""
+        return self.operate(Operation.REGISTER, lambda number: self.new(Obligation, number), args, to_name(trait))
+
+    def select_where_possible(self) -> Selected:
+        """Selects the registered goals, until that fixes nothing new. What answers fix stays."""
+        return self.operate(Operation.SELECT, self.selected)
+
+    def selected(self, given: int) -> Selected:
+        if given < 2:
+            return Pending() if given else AllDone()
+        return Refused(Obligation(self, given - 2, self.latest[Obligation, given - 2]))
+
+    def standing(self, obligation: Obligation) -> Standing:
+        """How an obligation stands since it was selected last."""
+        asked = self.own(Obligation, obligation)
+        return self.alone(lambda asker: self.operated(asker, Operation.STANDING, Standing, number=self.known(asked)))
+
+    def resolve(self, term: Term) -> Term:
+        """The term with the values that are known: each variable with a value is replaced by it."""
+        return self.operate(Operation.RESOLVE, self.new_term, [term])
+
+    def display(self, term: Term) -> str:
+        """A term as the language writes it. A type variable without a value is `?0t`, and a constant variable `?0c`: by their numbers."""
+        shown = self.own(Term, term)
+
+        def call(asker: Asker) -> str:
+            number = self.known(shown)
+            word, text = asker.room.written(lambda at, size, needed: library().celtisdarts_infer_text(asker.handle, number, at, size, needed))
+            if word != DONE:
+                raise refusal(word)
+            return text
+
+        return self.alone(call)
+
+    def start_snapshot(self) -> None:
+        """Opens a snapshot, behind those that are open."""
+        self.operate(Operation.SNAPSHOT, lambda _: self.count_snapshots(1))
+
+    def commit(self) -> bool:
+        """Ends the snapshot that was opened last, and keeps what was done since. Whether one was open."""
+        return self.operate(Operation.COMMIT, lambda given: self.count_snapshots(-given))
+
+    def roll_back(self) -> bool:
+        """Restores the context as it was at the snapshot that was opened last, and ends that. Terms and obligations that were given since are
+        taken back. Whether a snapshot was open."""
+        return self.operate(Operation.ROLL_BACK, lambda given: self.count_snapshots(-given))
+
+    def count_snapshots(self, more: int) -> bool:
+        """Counts the snapshots that are open. Whether their number is another now."""
+        self.snapshots += more
+        return more != 0
+
+    @contextmanager
+    def probe(self) -> Iterator[None]:
+        """Opens a snapshot for a `with` block, and rolls back to it at the block's end, also over snapshots that the block leaves open."""
+        before = self.snapshots
+        self.start_snapshot()
+        try:
+            yield
+        finally:
+            while self.reading and self.snapshots > before:
+                self.roll_back()
 
 
 def main(words: Sequence[str]) -> None:

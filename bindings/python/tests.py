@@ -5,6 +5,7 @@ CELTISDARTS_TEXTS may name a folder of further texts, `*.txt`, whose queries are
 from __future__ import annotations
 
 import copy
+import gc
 import os
 import pickle
 import re
@@ -13,16 +14,36 @@ import sys
 import threading
 import unittest
 from pathlib import Path
-from typing import Any, Callable, Iterator, NamedTuple, Optional
+from typing import Any, Callable, Iterator, NamedTuple, Optional, Sequence
 
 import celtisdarts
-from celtisdarts import (Accepted, Asker, Breaking, CeltisdartsError, Compatible, Held, Maybe, Missing, No, NoSuchCrate, NotAQuery, Open, Orphan,
-                         Overlap, QuestionFault, Session, SeveralLines, TextFault, TooLong, Undecided, Unproved, Workspace, Yes)
+from celtisdarts import (Accepted, AllDone, Asker, Breaking, CeltisdartsError, Compatible, Held, Infer, Maybe, Missing, No, NoSolution, NoSuchCrate,
+                         NoSuchName, NoSuchTerm, NotAQuery, Obligation, Open, Orphan, Overlap, Pending, QuestionFault, Refused, Session, SeveralLines,
+                         Standing, Term, TextFault, TooLong, Undecided, Unproved, Workspace, WrongTerms, Yes)
 
 TOP = Path(__file__).resolve().parents[2]
 # Its search goes down to the depth limit at whatever depth, by the largest frames that were found.
 DEEPEST = (TOP / "bindings/rust/tests/texts/deepest.txt").read_text()
 TEXT = "crate base\ntrait Show\nimpl Show for u8\ncrate a uses base\nstruct V<T>(T)\nimpl<T> Show for V<T> where T: Show\n"
+# What a `Str` is converted to has elements.
+CONVERTED = """\
+crate base
+trait Into<T>
+trait Push<T>
+trait Show
+struct Str
+struct V<T>
+struct A<T, const N>
+impl<T> Into<V<T>> for Str
+impl<T> Push<T> for V<T>
+impl Show for u8
+impl Show for bool
+crate a uses base
+struct R<'a, T>(&'a T)
+struct G<T>
+trait Grow
+impl<T> Grow for T where G<T>: Grow
+"""
 QUERY = re.compile(rb" *(?:prove|refute) +in +(\w+)")
 
 
@@ -301,6 +322,365 @@ class Calls(unittest.TestCase):
         ended = subprocess.run(words, cwd=Path(celtisdarts.__file__).parent, capture_output=True, text=True, check=False)
         self.assertEqual(ended.returncode, 1)
         self.assertIn(" has version 1 of the calls, and this module is for 7", ended.stderr)
+
+    def test_a_library_without_a_call(self) -> None:
+        words = [sys.executable, "-B", "-c", "import celtisdarts; celtisdarts.CALLS['celtisdarts_more'] = ([], None); celtisdarts.run('')"]
+        ended = subprocess.run(words, cwd=Path(celtisdarts.__file__).parent, capture_output=True, text=True, check=False)
+        self.assertEqual(ended.returncode, 1)
+        self.assertIn(" has no celtisdarts_more: it is older than this module", ended.stderr)
+
+
+class Contexts(unittest.TestCase):
+    def setUp(self) -> None:
+        self.workspace = Workspace(CONVERTED, 8)
+        self.session = self.workspace.session("a")
+
+    def asker(self, context: Infer) -> Asker:
+        assert context.reading
+        return context.reading[0]
+
+    def refused(self, kind: type[Exception], calls: Sequence[Callable[[], object]]) -> None:
+        for number, call in enumerate(calls):
+            with self.assertRaises(kind, msg=f"call {number}"):
+                call()
+
+    def test_goals_that_fix_a_variable_together(self) -> None:
+        with self.session.infer() as it:
+            unknown, byte = it.fresh_ty(), it.ty("u8")
+            self.assertTrue(it.can_eq(unknown, byte))
+            goals = [it.register("Into", it.ty("Str"), unknown), it.register("Push", unknown, byte)]
+            self.assertEqual([it.standing(goal) for goal in goals], [Standing.AMBIGUOUS] * 2)
+            self.assertEqual(str(it.resolve(unknown)), "?0t")
+            self.assertEqual(it.select_where_possible(), AllDone())
+            self.assertEqual([it.standing(goal) for goal in goals], [Standing.DONE] * 2)
+            self.assertEqual((str(it.resolve(unknown)), it.display(it.resolve(unknown))), ("V<u8>", "V<u8>"))
+            self.assertFalse(it.can_eq(unknown, byte))
+            with self.assertRaises(NoSolution):
+                it.eq(unknown, byte)
+            self.assertEqual(it.select_where_possible(), AllDone())
+
+    def test_terms_as_they_are_displayed(self) -> None:
+        with self.session.infer() as it:
+            byte, flag, three = it.ty("u8"), it.ty("bool"), it.constant(3)
+            displayed = [
+                (byte, "u8"), (it.ty("!"), "!"), (it.ty("Str"), "Str"), (it.ty("V", byte), "V<u8>"), (it.ty("A", byte, three), "A<u8, 3>"),
+                (it.ty("Box", byte), "Box<u8>"), (three, "3"), (it.constant((1 << 64) - 1), "18446744073709551615"), (it.tuple(), "()"),
+                (it.tuple(byte), "(u8,)"), (it.tuple(byte, flag), "(u8, bool)"), (it.slice(byte), "[u8]"), (it.array(byte, three), "[u8; 3]"),
+                (it.reference(byte), "&u8"), (it.reference(byte, mutable=True), "&mut u8"), (it.pointer(byte), "*const u8"),
+                (it.pointer(byte, mutable=True), "*mut u8"), (it.function([byte, flag], byte), "fn(u8, bool) -> u8"),
+                (it.function((), it.tuple()), "fn()"), (it.fresh_ty(), "?0t"), (it.fresh_const(), "?0c"), (it.ty("V", it.fresh_ty()), "V<?1t>"),
+            ]
+            self.assertEqual([str(term) for term, _ in displayed], [text for _, text in displayed])
+            many = it.tuple(*[it.tuple(*[it.ty("A", it.ty("Str"), it.constant((1 << 64) - 1))] * 12)] * 12)
+            inside = "(" + ", ".join(["A<Str, 18446744073709551615>"] * 12) + ")"
+            self.assertEqual(str(many), "(" + ", ".join([inside] * 12) + ")")  # longer than the first buffer
+
+    def test_arguments_that_are_lifetimes(self) -> None:
+        with self.session.infer() as it:
+            unknown = it.fresh_ty()
+            it.eq(it.ty("R", it.lifetime(), unknown), it.ty("R", it.lifetime(), it.ty("u8")))
+            self.assertEqual(str(it.resolve(unknown)), "u8")
+
+    def test_a_constant_is_inferred(self) -> None:
+        with self.session.infer() as it:
+            byte, length = it.ty("u8"), it.fresh_const()
+            it.eq(it.ty("A", byte, length), it.ty("A", byte, it.constant(3)))
+            self.assertEqual(str(it.resolve(length)), "3")
+
+    def test_how_obligations_stand(self) -> None:
+        with self.session.infer() as it:
+            self.assertEqual(it.select_where_possible(), AllDone())
+            done = it.register("Show", it.ty("u8"))
+            self.assertEqual(it.select_where_possible(), AllDone())
+            pending = it.register("Show", it.fresh_ty())
+            self.assertEqual(it.select_where_possible(), Pending())
+            deep = it.register("Grow", it.ty("u8"))
+            self.assertEqual(it.select_where_possible(), Pending())
+            wrong = it.register("Show", it.ty("Str"))
+            self.assertEqual(it.select_where_possible(), Refused(wrong))
+            standings = [it.standing(goal) for goal in (done, pending, deep, wrong)]
+            self.assertEqual(standings, [Standing.DONE, Standing.AMBIGUOUS, Standing.TOO_DEEP, Standing.REFUSED])
+
+    def test_names_and_terms_that_are_refused(self) -> None:
+        with self.session.infer() as it, self.workspace.session("base").infer() as other:
+            byte, three, static = it.ty("u8"), it.constant(3), it.lifetime()
+            self.refused(NoSuchName, [
+                lambda: it.ty("W"), lambda: it.ty(""), lambda: it.ty("Show"), lambda: it.ty("V<u8>"), lambda: it.ty("\u00e9"),
+                lambda: it.ty("u8\0"), lambda: it.register("W", byte), lambda: it.register("Str", byte), lambda: it.register("u8", byte),
+                lambda: other.ty("G", other.ty("u8")), lambda: other.register("Grow", other.ty("u8")),
+            ])
+            self.refused(WrongTerms, [
+                lambda: it.ty("V"), lambda: it.ty("V", byte, byte), lambda: it.ty("V", three), lambda: it.ty("V", static), lambda: it.ty("u8", byte),
+                lambda: it.ty("A", three, byte), lambda: it.ty("R", byte), lambda: it.slice(three), lambda: it.array(byte, byte),
+                lambda: it.array(three, three), lambda: it.reference(static), lambda: it.reference(three, mutable=True), lambda: it.pointer(three),
+                lambda: it.tuple(byte, three), lambda: it.function([three], byte), lambda: it.function([byte], three),
+                lambda: it.register("Show"), lambda: it.register("Show", byte, byte), lambda: it.register("Into", byte, three),
+            ])
+            self.assertEqual(it.select_where_possible(), AllDone())
+            self.assertEqual([str(byte), str(it.fresh_ty()), it.register("Show", byte).number], ["u8", "?0t", 0])
+
+    def test_arguments_of_another_type(self) -> None:
+        wrong: Any
+        with self.session.infer() as it:
+            byte = it.ty("u8")
+            goal = it.register("Show", byte)
+            for wrong in (None, 5, "u8", [byte], goal, it):
+                self.refused(TypeError, [
+                    lambda: it.ty("V", wrong), lambda: it.tuple(byte, wrong), lambda: it.slice(wrong), lambda: it.array(byte, wrong),
+                    lambda: it.array(wrong, byte), lambda: it.reference(wrong), lambda: it.pointer(wrong), lambda: it.function([wrong], byte),
+                    lambda: it.function([], wrong), lambda: it.eq(byte, wrong), lambda: it.eq(wrong, byte), lambda: it.can_eq(wrong, byte),
+                    lambda: it.register("Show", wrong), lambda: it.resolve(wrong), lambda: it.display(wrong),
+                ])
+            for wrong in (None, 0, "u8", byte):
+                self.refused(TypeError, [lambda: it.standing(wrong), lambda: it.function(wrong, byte)])
+                self.refused(TypeError, [lambda: it.reference(byte, wrong), lambda: it.pointer(byte, wrong)])
+            for wrong in (None, 5, b"u8", byte):
+                self.refused(TypeError, [lambda: it.ty(wrong), lambda: it.register(wrong, byte)])
+            for wrong in (None, "3", 3.0, byte):
+                self.refused(TypeError, [lambda: it.constant(wrong)])
+            self.refused(ValueError, [lambda: it.constant(-1), lambda: it.constant(1 << 64)])
+            self.assertEqual((str(it.fresh_ty()), it.select_where_possible()), ("?0t", AllDone()))
+
+    def test_a_rollback_takes_back(self) -> None:
+        with self.session.infer() as it:
+            kept, byte = it.fresh_ty(), it.ty("u8")
+            self.assertEqual((it.commit(), it.roll_back()), (False, False))
+            it.start_snapshot()
+            term = it.ty("V", kept)
+            goal = it.register("Push", term, byte)
+            self.assertEqual((it.select_where_possible(), str(it.resolve(kept))), (AllDone(), "u8"))
+            it.eq(kept, byte)
+            self.assertTrue(it.roll_back())
+            gone: Sequence[Callable[[], object]] = [
+                lambda: str(term), lambda: it.display(term), lambda: it.resolve(term), lambda: it.eq(kept, term), lambda: it.can_eq(term, kept),
+                lambda: it.ty("V", term), lambda: it.register("Show", term), lambda: it.standing(goal),
+            ]
+            self.refused(NoSuchTerm, gone)
+            flag = it.ty("bool")
+            other = it.register("Show", flag)
+            self.assertEqual((flag.number, other.number), (term.number, goal.number))  # which are given anew
+            self.assertEqual((flag == term, other == goal), (False, False))
+            self.refused(NoSuchTerm, gone)
+            self.assertEqual((it.select_where_possible(), it.standing(other), str(flag)), (AllDone(), Standing.DONE, "bool"))
+            self.assertEqual((str(it.resolve(kept)), it.roll_back()), ("?0t", False))
+
+    def test_a_commit_keeps(self) -> None:
+        with self.session.infer() as it:
+            unknown = it.fresh_ty()
+            it.start_snapshot()
+            it.start_snapshot()
+            it.eq(unknown, it.ty("u8"))
+            self.assertTrue(it.commit())
+            self.assertEqual(str(it.resolve(unknown)), "u8")
+            self.assertTrue(it.roll_back())
+            self.assertEqual((str(it.resolve(unknown)), it.commit()), ("?0t", False))
+
+    def test_a_probe_leaves_no_trace(self) -> None:
+        with self.session.infer() as it:
+            unknown, byte = it.fresh_ty(), it.ty("u8")
+            with it.probe():
+                it.eq(unknown, byte)
+                with it.probe():
+                    it.register("Show", it.slice(unknown))
+                    it.start_snapshot()  # left open
+                    self.assertIsInstance(it.select_where_possible(), Refused)
+                self.assertEqual((it.select_where_possible(), str(it.resolve(unknown))), (AllDone(), "u8"))
+            with self.assertRaises(NoSolution), it.probe():
+                it.eq(unknown, it.ty("bool"))
+                it.eq(unknown, byte)
+            self.assertEqual((str(it.resolve(unknown)), it.roll_back()), ("?0t", False))
+            it.start_snapshot()
+            with it.probe():
+                self.assertTrue(it.commit())  # its own
+            self.assertEqual((it.roll_back(), it.roll_back()), (True, False))
+            with it.probe():
+                it.close()
+
+    def test_two_contexts_of_one_workspace(self) -> None:
+        with self.session.infer() as it, self.session.infer() as other, self.workspace.session("base").infer() as further:
+            unknown, byte = it.fresh_ty(), it.ty("u8")
+            goal = it.register("Show", unknown)
+            it.eq(unknown, byte)
+            for context in (other, further):
+                variable = context.fresh_ty()
+                context.eq(variable, context.ty("bool"))
+                self.assertEqual((str(context.resolve(variable)), variable == unknown), ("bool", False))
+                self.refused(ValueError, [
+                    lambda: context.eq(variable, byte), lambda: context.ty("V", byte), lambda: context.resolve(byte),
+                    lambda: context.display(byte), lambda: context.register("Show", byte), lambda: context.standing(goal),
+                ])
+                with self.assertRaisesRegex(ValueError, "another context"):
+                    context.slice(unknown)
+            self.assertEqual((it.select_where_possible(), str(it.resolve(unknown))), (AllDone(), "u8"))
+            self.assertEqual((it.crate_name, further.crate_name), ("a", "base"))
+
+    def test_a_context_is_closed(self) -> None:
+        with self.session.infer() as it:
+            byte = it.ty("u8")
+            goal = it.register("Show", byte)
+        it.close()
+        calls: Sequence[Callable[[], object]] = [
+            it.fresh_ty, it.fresh_const, lambda: it.ty("u8"), lambda: it.constant(3), it.lifetime, it.tuple, lambda: it.slice(byte), lambda: str(byte),
+            lambda: it.array(byte, byte), lambda: it.reference(byte), lambda: it.pointer(byte), lambda: it.function([], byte), lambda: it.eq(byte, byte),
+            lambda: it.can_eq(byte, byte), lambda: it.register("Show", byte), it.select_where_possible, lambda: it.standing(goal),
+            lambda: it.resolve(byte), it.start_snapshot, it.commit, it.roll_back, it.probe().__enter__,
+        ]
+        for call in calls:
+            with self.assertRaisesRegex(ValueError, "the context is closed"):
+                call()
+        self.assertEqual((repr(byte), {byte: 1}[byte]), ("Term(number=0)", 1))
+
+    def test_a_context_outlives_its_session(self) -> None:
+        it = Workspace(CONVERTED).session("a").infer()
+        gc.collect()
+        self.assertEqual(str(it.ty("V", it.ty("u8"))), "V<u8>")
+        self.session.close()
+        with self.assertRaisesRegex(ValueError, "the session is closed"):
+            self.session.infer()
+        with Workspace("").session("core").infer() as core:
+            core.register("Copy", core.ty("u8"))
+            self.assertEqual(core.select_where_possible(), AllDone())
+
+    def test_a_session_answers_as_before(self) -> None:
+        def answers() -> list[object]:
+            asked = ["Str: Into<?x>, ?x: Push<u8>", "?x: Show", "V<u8>: Show", "u8: Show", "u8: Grow"]
+            return [self.session.check_crate(), *map(self.session.prove, asked), self.session.refute("Str: Show")]
+
+        before = [Accepted(), Yes({"x": "V<u8>"}), Maybe(), Unproved(), Yes(), Maybe(), Open()]
+        self.assertEqual(answers(), before)
+        with self.session.infer() as it:
+            unknown = it.fresh_ty()
+            it.register("Show", unknown)
+            it.register("Show", it.ty("V", unknown))
+            self.assertEqual(answers(), before)
+            self.assertIsInstance(it.select_where_possible(), Refused)
+            self.assertEqual(answers(), before)
+            self.assertEqual(str(it.resolve(unknown)), "?0t")
+        self.assertEqual(answers(), before)
+
+    def test_a_closed_context_gives_its_reading_back(self) -> None:
+        with self.session.infer() as it:
+            asker = self.asker(it)
+            self.assertEqual(self.workspace.readings.idle, [])
+        for _ in range(3):
+            self.assertEqual(self.session.prove("u8: Show"), Yes({}))
+            self.assertEqual([reading[0] for reading in self.workspace.readings.idle], [asker])
+            with self.session.infer() as it, self.workspace.session("base") as other:
+                self.assertIs(self.asker(it), asker)
+                self.assertEqual((str(it.fresh_ty()), it.ty("u8").number), ("?0t", 1))  # nothing is left of the last one
+            self.assertEqual(other.crate_name, "base")
+        contexts = [self.session.infer() for _ in range(4)]
+        self.assertEqual(len({self.asker(it) for it in contexts}), 4)
+        terms = [it.ty("u8") for it in contexts]
+        del contexts, it
+        gc.collect()
+        self.assertEqual((self.workspace.readings.idle, [str(term) for term in terms]), ([], ["u8"] * 4))  # a term keeps its context
+        del terms
+        gc.collect()
+        self.assertEqual(len(self.workspace.readings.idle), 4)
+        self.workspace.session("a").close()
+        self.assertEqual(len(self.workspace.readings.idle), 1)
+
+    def test_a_context_is_collected_at_any_time(self) -> None:
+        context = self.session.infer()
+        found = self.asker(context)
+        with self.workspace.readings.lock:  # a collection may begin where a call has the lock
+            del context
+            gc.collect()
+        self.assertEqual([reading[0] for reading in self.workspace.readings.idle], [found])
+
+    def test_contexts_are_not_copied(self) -> None:
+        with self.session.infer() as it:
+            term = it.ty("u8")
+            goal = it.register("Show", term)
+            for refused in (copy.copy, copy.deepcopy, pickle.dumps):
+                with self.assertRaises(TypeError):
+                    refused(it)
+            for value in (term, goal):
+                self.assertEqual(copy.copy(value), value)
+                for refused in (copy.deepcopy, pickle.dumps):
+                    with self.assertRaises(TypeError):
+                        refused(value)
+
+    def test_terms_are_values(self) -> None:
+        with self.session.infer() as it:
+            term, other, goal = it.ty("u8"), it.ty("u8"), it.register("Show", it.fresh_ty())
+            self.assertEqual(len({term, other, goal, copy.copy(term)}), 3)
+            self.assertEqual((term == other, it.can_eq(term, other), term == goal), (False, True, False))
+            self.assertEqual((repr(term), repr(goal)), ("Term(number=0)", "Obligation(number=0)"))
+            value: Any
+            for value in (term, goal):
+                with self.assertRaises(AttributeError):
+                    value.number = 5
+            self.assertEqual([isinstance(value, Term) for value in (term, goal)], [True, False])
+            self.assertIsInstance(goal, Obligation)
+
+    def test_what_a_selection_comes_to_is_no_condition(self) -> None:
+        with self.session.infer() as it:
+            goal = it.register("Show", it.ty("Str"))
+            refused = it.select_where_possible()
+            self.assertEqual([str(AllDone()), str(Pending()), str(refused)], ["all done", "pending", "refused 0"])
+            self.assertEqual(len({AllDone(), Pending(), refused, Refused(goal), AllDone()}), 3)
+            for value in (AllDone(), Pending(), refused, *Standing):
+                with self.assertRaisesRegex(TypeError, "has no truth value"):
+                    bool(value)
+            for value in (AllDone(), Pending(), *Standing):
+                self.assertEqual(pickle.loads(pickle.dumps(value)), value)
+
+    def test_threads_share_a_context(self) -> None:
+        context, wrong = self.session.infer(), []
+
+        def infer() -> None:
+            for number in range(50):
+                unknown = context.fresh_ty()
+                context.eq(context.slice(unknown), context.slice(context.ty("V", context.ty("u8"))))
+                goal = context.register("Push", unknown, context.ty("u8"))
+                context.select_where_possible()
+                if (str(context.resolve(unknown)), context.standing(goal)) != ("V<u8>", Standing.DONE):
+                    wrong.append(number)
+
+        threads = [threading.Thread(target=infer) for _ in range(4)]
+        for thread in threads:
+            thread.start()
+        for thread in threads:
+            thread.join()
+        self.assertEqual((wrong, context.fresh_ty().number), ([], 4 * 50 * 7))
+
+    def test_a_context_is_closed_by_another_thread(self) -> None:
+        for _ in range(20):
+            context, ended = self.session.infer(), []
+
+            def infer() -> None:
+                try:
+                    while True:
+                        str(context.fresh_ty())
+                except ValueError as error:
+                    ended.append(str(error))
+
+            threads = [threading.Thread(target=infer) for _ in range(3)] + [threading.Thread(target=context.close) for _ in range(3)]
+            for thread in threads:
+                thread.start()
+            for thread in threads:
+                thread.join()
+            self.assertEqual((ended, len(self.workspace.readings.idle)), (["the context is closed"] * 3, 1))
+
+    def test_a_thread_with_a_small_stack(self) -> None:
+        found: list[object] = []
+
+        def infer() -> None:
+            with Workspace(CONVERTED, 255).session("a").infer() as it:
+                goal = it.register("Grow", it.ty("u8"))
+                found.extend([it.select_where_possible(), it.standing(goal)])
+
+        on_thread(256 << 10, infer)
+        self.assertEqual(found, [Pending(), Standing.TOO_DEEP])
+
+    def test_the_example_prints_what_its_head_says(self) -> None:
+        example = Path(__file__).with_name("inference.py")
+        ended = subprocess.run([sys.executable, "-B", example], capture_output=True, text=True, check=True)
+        head = example.read_text(encoding="utf-8").split('"""')[1]
+        shown = head.split("    $ python3 bindings/python/inference.py\n")[1]
+        self.assertEqual(ended.stdout, re.sub("^    ", "", shown, flags=re.M))
 
 
 if __name__ == "__main__":

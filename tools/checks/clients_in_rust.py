@@ -24,7 +24,7 @@ REFUSALS = (
 # What type_checker says, and the codes of rustc for it.
 KINDS = (
     ("does not hold", {"E0277"}), ("expected", {"E0308", "E0061"}), ("is not known", {"E0425"}),
-    ("type annotations needed", {"E0282", "E0283", "E0284"}),
+    ("type annotations needed", {"E0282", "E0283", "E0284"}), ("overflow", {"E0275"}),
 )
 
 # What methods return, and a function that prints what a call returns. No call is run.

@@ -1,153 +1,239 @@
-//! A type checker of a toy language, which asks the library for bounds: cargo run --example type_checker -- FILE
+//! A type checker of a toy language, which infers types in a context of the library: cargo run --example type_checker -- FILE
 //!
 //! A program is the declarations of a text, an empty line, and then functions without bodies, `let` lines and calls. A number ends with its
-//! type. Bounds are asked with open variables as `?t1`, and a `yes` gives their values. A `maybe` is asked again, at last after all lines, and
-//! then it is an error. Types have to be `Sized`, which is `maybe` while they are open. That a bound does not hold says that no impl which the
-//! crate sees gives it a proof. For `examples/toy/program.txt` it prints this, and the status is 1:
+//! type. For each parameter of a called function there is a variable. Arguments get the types of inputs, and the function's bounds are
+//! registered, with `Sized` for each variable. A bound that is refused is an error, and then the program is checked again without it. At last
+//! each bound has to be done, and each type has to be known. For `examples/toy/program.txt` it prints this, and the status is 1:
 //! ```text
 //! line 14: V<u8>: Named does not hold
-//! line 17: expected u16, found u32
+//! line 17: expected V<u16>, found V<u32>
 //! ```
 
-use celtisdarts::ProveAnswer::{Maybe, Unproved, Yes};
-use celtisdarts::{Depth, Session, Value, Workspace};
-use std::{collections::BTreeSet, env, error::Error, fs, mem, process::ExitCode};
-use toy::{filled, is_sign, number_type, own_variables, params, parts, signature, Values};
+use celtisdarts::{Depth, Error::NoSolution, Infer, ObligationId, Selected, Standing, Term};
+use std::collections::{BTreeMap, BTreeSet, HashMap};
+use std::{env, error::Error, fs, process::ExitCode};
+use toy::{bound, is_sign, number_type, parts, without_variables, Function};
 mod toy;
 
+type Checked<T> = Result<T, Box<dyn Error>>;
+type Types = HashMap<String, Term>;
+/// A line, and the number of a bound in it.
+type Place = (usize, usize);
+/// A bound that was registered: its trait, and the terms that have to implement it.
+type Bound = (ObligationId, Place, String, Vec<Term>);
+
 struct Checker {
-    session: Session,
-    /// Functions as they are written. A name of `let` is one without parameters.
-    known: Values,
-    variables: usize,
-    values: Values,
-    /// Bounds that are not decided, with their lines.
-    waiting: Vec<(usize, String)>,
+    infer: Infer,
+    /// What is said of the bounds that were refused.
+    refused: BTreeMap<Place, String>,
+    at: Place,
+    round: Round,
+}
+
+/// What is known of a program that is checked once.
+#[derive(Default)]
+struct Round {
+    functions: HashMap<String, String>,
+    names: Types,
+    /// Variables, with their lines.
+    variables: Vec<(usize, Term)>,
+    bounds: Vec<Bound>,
     errors: BTreeSet<(usize, String)>,
 }
 
 impl Checker {
-    fn fresh(&mut self, line: usize) -> String {
-        self.variables += 1;
-        let made = format!("?t{}", self.variables);
-        self.waiting.push((line, format!("{made}: Sized")));
-        made
+    fn shown(&mut self, terms: &[Term]) -> Checked<String> {
+        let mut shown = Vec::new();
+        for term in terms {
+            let resolved = self.infer.resolve(*term)?;
+            shown.push(without_variables(&self.infer.display(resolved)?));
+        }
+        Ok(shown.join(", "))
     }
 
-    fn unify(&mut self, wanted: &str, found: &str) -> Result<(), String> {
-        let (wanted, found) = (filled(&self.values, wanted), filled(&self.values, found));
-        let ((head, args), (other, others)) = (parts(&wanted), parts(&found));
-        if head == other && args.len() == others.len() {
-            let mut pairs = args.iter().zip(others);
-            return pairs.try_for_each(|(it, other)| self.unify(it, other));
-        }
-        for (open, value) in [(&wanted, &found), (&found, &wanted)] {
-            if open.starts_with('?') && value.split(is_sign).all(|it| it != open) {
-                self.values.insert(open.into(), value.into());
-                return Ok(());
-            }
-        }
-        Err(format!("expected {wanted}, found {found}"))
+    fn shown_bound(&mut self, (_, _, name, args): &Bound) -> Checked<String> {
+        let (own, others) = (self.shown(&args[..1])?, self.shown(&args[1..])?);
+        let others = Some(others).filter(|it| !it.is_empty());
+        let others = others.map_or(String::new(), |it| format!("<{it}>"));
+        Ok(format!("{own}: {name}{others}"))
     }
 
-    fn take(&mut self, line: usize, answered: &[Value]) {
-        let mut own = Values::new();
-        for it in answered {
-            for word in own_variables(&it.value) {
-                own.entry(word.into()).or_insert_with(|| self.fresh(line));
-            }
-            let value = filled(&own, &it.value);
-            self.values.insert(format!("?{}", it.variable), value);
-        }
+    fn fresh(&mut self) -> Checked<Term> {
+        let made = self.infer.fresh_ty()?;
+        self.round.variables.push((self.at.0, made));
+        self.register("Sized", vec![made])?;
+        Ok(made)
     }
 
-    /// Asks each bound that waits.
-    fn prove(&mut self) {
-        for (line, bound) in mem::take(&mut self.waiting) {
-            let bound = filled(&self.values, &bound);
-            match self.session.prove(&bound) {
-                Ok(Yes(values)) => self.take(line, &values),
-                Ok(Maybe(values)) => {
-                    self.take(line, &values);
-                    self.waiting.push((line, bound));
-                }
-                Ok(Unproved) => self.errors.extend([(line, bound + " does not hold")]),
-                Err(error) => self.errors.extend([(line, format!("{bound}: {error}"))]),
-            }
-        }
+    /// The types that are written so, in a function with these parameters.
+    fn types(&mut self, own: &Types, texts: &[&str]) -> Checked<Vec<Term>> {
+        texts.iter().map(|it| self.written(own, it)).collect()
     }
 
-    /// The type of a number, a name or a call.
-    fn type_of(&mut self, line: usize, text: &str) -> Result<String, String> {
+    fn written(&mut self, own: &Types, text: &str) -> Checked<Term> {
+        if let Some(param) = own.get(text) {
+            return Ok(*param);
+        }
         let (head, args) = parts(text);
-        let name = head.trim_end_matches('(');
-        if let Some(number) = number_type(text) {
-            return Ok(number.into());
-        }
-        let function = self.known.get(name).cloned();
-        let function = function.ok_or(format!("`{name}` is not known"))?;
-        let (params, rest) = params(&function);
-        let params = params.into_iter();
-        let own = params.map(|it| (it.into(), self.fresh(line))).collect();
-        let rest = filled(&own, rest);
-        let (inputs, output, bounds) = signature(&rest);
-        let found: Result<Vec<_>, _> = args.iter().map(|it| self.type_of(line, it)).collect();
-        self.unify(inputs, &format!("({})", found?.join(", ")))?;
-        let bounds = bounds.into_iter().map(|it| (line, it.into()));
-        self.waiting.extend(bounds);
-        self.prove();
-        Ok(output.into())
+        let args = self.types(own, &args)?;
+        let made = match head.trim_end_matches('<') {
+            "(" => self.infer.tuple(&args),
+            name => self.infer.ty(name, &args),
+        };
+        made.map_err(|it| format!("{text}: {it}").into())
     }
 
-    fn check_line(&mut self, line: usize, text: &str) -> Result<(), String> {
-        if let Some(function) = text.strip_prefix("fn ") {
-            let name = function.split(is_sign).next().unwrap_or("");
-            self.known.insert(name.into(), function.into());
-        } else if let Some((left, right)) = text.split_once(" = ") {
-            let left = left.strip_prefix("let ").ok_or("`let` is missing")?;
-            let typed = left.split_once(": ").map(|(name, it)| (name, it.into()));
-            let (name, wanted) = typed.unwrap_or_else(|| (left, self.fresh(line)));
-            let found = self.type_of(line, right);
-            self.known
-                .insert(name.into(), format!("{name}() -> {wanted}"));
-            self.unify(&wanted, &found?)?;
-        } else if !text.is_empty() && !text.starts_with("//") {
-            self.type_of(line, text)?;
+    fn unify(&mut self, wanted: Term, found: Term) -> Checked<()> {
+        match self.infer.eq(wanted, found) {
+            Err(NoSolution) => {
+                let (wanted, found) = (self.shown(&[wanted])?, self.shown(&[found])?);
+                Err(format!("expected {wanted}, found {found}").into())
+            }
+            ended => Ok(ended?),
+        }
+    }
+
+    fn register(&mut self, name: &str, args: Vec<Term>) -> Checked<()> {
+        self.at.1 += 1;
+        if !self.refused.contains_key(&self.at) {
+            let id = self.infer.register(name, &args);
+            let id = id.map_err(|it| format!("{name}: {it}"))?;
+            self.round.bounds.push((id, self.at, name.into(), args));
         }
         Ok(())
     }
+
+    fn select(&mut self) -> Checked<()> {
+        if let Selected::Refused(id) = self.infer.select_where_possible()? {
+            let found = self.round.bounds.iter().find(|it| it.0 == id).cloned();
+            let found = found.ok_or("an obligation of nobody")?;
+            let error = self.shown_bound(&found)? + " does not hold";
+            self.refused.entry(found.1).or_insert(error);
+        }
+        Ok(())
+    }
+
+    /// The type of a number, a name or a call.
+    fn type_of(&mut self, text: &str) -> Checked<Term> {
+        let (head, args) = parts(text);
+        if let Some(number) = number_type(text) {
+            return self.written(&Types::new(), number);
+        }
+        let Some(name) = head.strip_suffix('(') else {
+            let known = self.round.names.get(text).copied();
+            return known.ok_or_else(|| format!("`{text}` is not known").into());
+        };
+        let function = self.round.functions.get(name).cloned();
+        let function = function.ok_or_else(|| format!("`{name}` is not known"))?;
+        self.call(&Function::of(&function), &args)
+    }
+
+    fn call(&mut self, function: &Function, args: &[&str]) -> Checked<Term> {
+        let mut own = Types::new();
+        for param in &function.params {
+            own.insert(param.to_string(), self.fresh()?);
+        }
+        let inputs = self.types(&own, &function.inputs)?;
+        let found: Checked<Vec<Term>> = args.iter().map(|it| self.type_of(it)).collect();
+        let found = found?;
+        if inputs.len() != found.len() {
+            let (wanted, found) = (self.shown(&inputs)?, self.shown(&found)?);
+            return Err(format!("expected ({wanted}), found ({found})").into());
+        }
+        let mut pairs = inputs.into_iter().zip(found);
+        pairs.try_for_each(|(wanted, found)| self.unify(wanted, found))?;
+        for (name, args) in function.bounds.iter().map(|it| bound(it)) {
+            let args = self.types(&own, &args)?;
+            self.register(name, args)?;
+        }
+        self.select()?;
+        self.written(&own, function.output)
+    }
+
+    fn check_line(&mut self, text: &str) -> Checked<()> {
+        if let Some(function) = text.strip_prefix("fn ") {
+            let name = function.split(is_sign).next().unwrap_or("");
+            self.round.functions.insert(name.into(), function.into());
+        } else if let Some((left, right)) = text.split_once(" = ") {
+            let left = left.strip_prefix("let ").ok_or("`let` is missing")?;
+            let (name, wanted) = match left.split_once(": ") {
+                Some((name, ty)) => (name, self.written(&Types::new(), ty)?),
+                None => (left, self.fresh()?),
+            };
+            let found = self.type_of(right);
+            self.round.names.insert(name.into(), wanted);
+            self.unify(wanted, found?)?;
+            self.select()?;
+        } else if !text.is_empty() && !text.starts_with("//") {
+            self.type_of(text)?;
+        }
+        Ok(())
+    }
+
+    /// Notes the lines whose types or bounds are not decided.
+    fn check_end(&mut self) -> Checked<()> {
+        let unknown = || String::from("type annotations needed");
+        for (line, variable) in self.round.variables.clone() {
+            if self.shown(&[variable])?.contains('_') {
+                self.round.errors.insert((line, unknown()));
+            }
+        }
+        for bound in self.round.bounds.clone() {
+            let error = match self.infer.standing(bound.0)? {
+                Standing::Done | Standing::Refused => continue,
+                Standing::Ambiguous => unknown(),
+                Standing::TooDeep => format!("overflow evaluating {}", bound.2),
+            };
+            self.round.errors.insert((bound.1 .0, error));
+        }
+        Ok(())
+    }
+
+    /// Checks the program without the bounds that were refused.
+    fn check_once(&mut self, first: usize, lines: &str) -> Checked<()> {
+        self.round = Round::default();
+        for (line, text) in (first..).zip(lines.lines()) {
+            self.at = (line, 0);
+            if let Err(error) = self.check_line(text.trim()) {
+                self.round.errors.insert((line, error.to_string()));
+            }
+        }
+        if self.round.errors.is_empty() && self.refused.is_empty() {
+            self.check_end()?;
+        }
+        Ok(())
+    }
+
+    fn check(mut self, first: usize, lines: &str) -> Checked<BTreeSet<(usize, String)>> {
+        loop {
+            let before = self.refused.len();
+            self.infer.start_snapshot()?;
+            self.check_once(first, lines)?;
+            self.infer.roll_back()?;
+            if self.refused.len() == before {
+                let refused = self.refused.into_iter().map(|(at, it)| (at.0, it));
+                return Ok(self.round.errors.into_iter().chain(refused).collect());
+            }
+        }
+    }
 }
 
-fn main() -> Result<ExitCode, Box<dyn Error>> {
+fn main() -> Checked<ExitCode> {
     let file = env::args().nth(1).ok_or("usage: type_checker FILE")?;
     let program = fs::read_to_string(&file).map_err(|it| format!("{file}: {it}"))?;
     let (text, lines) = program.split_once("\n\n").unwrap_or((&program, ""));
-    let workspace = Workspace::parse(text, Depth::default()).map_err(|it| it.to_string())?;
+    let workspace = celtisdarts::Workspace::parse(text, Depth::default());
+    let workspace = workspace.map_err(|it| it.to_string())?;
     let name = workspace.crates().last().ok_or("there is no crate")?;
-    let mut checker = Checker {
-        session: workspace.session(name)?,
-        known: Values::new(),
-        variables: 0,
-        values: Values::new(),
-        waiting: Vec::new(),
-        errors: BTreeSet::new(),
+    let checker = Checker {
+        infer: workspace.session(name)?.infer()?,
+        refused: BTreeMap::new(),
+        at: (0, 0),
+        round: Round::default(),
     };
-    for (line, text) in (text.lines().count() + 2..).zip(lines.lines()) {
-        let error = checker.check_line(line, text.trim()).err();
-        checker.errors.extend(error.map(|it| (line, it)));
-    }
-    // A round that gives any value leaves fewer bounds.
-    for _ in 0..checker.waiting.len() {
-        checker.prove();
-    }
-    if checker.errors.is_empty() {
-        let open = checker.waiting.iter().map(|it| it.0);
-        checker.errors = open
-            .map(|it| (it, "type annotations needed".into()))
-            .collect();
-    }
-    for (line, error) in &checker.errors {
+    let errors = checker.check(text.lines().count() + 2, lines)?;
+    for (line, error) in &errors {
         println!("line {line}: {error}");
     }
-    Ok(ExitCode::from(u8::from(!checker.errors.is_empty())))
+    Ok(ExitCode::from(u8::from(!errors.is_empty())))
 }

@@ -4,8 +4,10 @@
 use crate::error::{Error, FaultKind};
 use celtisdarts_sys::{
     celtisdarts_abi_version, celtisdarts_ask, celtisdarts_check, celtisdarts_close,
+    celtisdarts_infer, celtisdarts_infer_begin, celtisdarts_infer_end, celtisdarts_infer_text,
     celtisdarts_name, celtisdarts_new, celtisdarts_read, celtisdarts_run, Handle, ABI_VERSION,
-    DONE, FAULT, FULL, MEMORY, NOT_A_QUERY, NO_CRATE, SEVERAL_LINES, TOO_LONG, TOO_SHORT,
+    DONE, FAULT, FULL, MEMORY, NOT_A_QUERY, NO_CRATE, NO_NAME, NO_SOLUTION, NO_TERM, SEVERAL_LINES,
+    TOO_LONG, TOO_SHORT, WRONG_TERMS,
 };
 use std::mem::ManuallyDrop;
 use std::ptr::{self, NonNull};
@@ -29,6 +31,10 @@ fn error_of(word: u32) -> Error {
         SEVERAL_LINES => Error::SeveralLines,
         TOO_LONG => Error::TooLong,
         NO_CRATE => Error::NoSuchCrate,
+        NO_TERM => Error::NoSuchTerm,
+        NO_SOLUTION => Error::NoSolution,
+        NO_NAME => Error::NoSuchName,
+        WRONG_TERMS => Error::WrongTerms,
         _ => unreachable!("the call ends with no word {word}"),
     }
 }
@@ -77,6 +83,16 @@ pub(crate) fn run(text: &[u8], depth: u8, buffer: &mut Vec<u8>) -> Result<bool, 
         FAULT => Ok(false),
         word => Err(error_of(word)),
     }
+}
+
+/// An operation of an inference context, with what it takes.
+#[derive(Default)]
+pub(crate) struct Operation {
+    /// An `INFER_..`.
+    pub(crate) operation: u32,
+    pub(crate) name: Box<str>,
+    pub(crate) terms: Vec<u32>,
+    pub(crate) number: u64,
 }
 
 /// A text that the library has read, to be asked by one call at a time.
@@ -164,6 +180,60 @@ impl Asker {
         match word {
             DONE => Ok(()),
             FAULT => Err(Error::Question(fault_kind(number))),
+            word => Err(error_of(word)),
+        }
+    }
+
+    /// Begins an inference context of a crate, in the place of the last one. The error is `NoSuchCrate`, `Memory` or `Full`.
+    pub(crate) fn infer_begin(&mut self, number: u32) -> Result<(), Error> {
+        // SAFETY: the declaration is the library's, and the handle is open.
+        match unsafe { celtisdarts_infer_begin(&mut self.handle, number) } {
+            DONE => Ok(()),
+            word => Err(error_of(word)),
+        }
+    }
+
+    /// Ends the inference context, of which there has to be one. The error is `Memory`.
+    pub(crate) fn infer_end(&mut self) -> Result<(), Error> {
+        // SAFETY: the declaration is the library's, and the handle is open.
+        match unsafe { celtisdarts_infer_end(&mut self.handle) } {
+            DONE => Ok(()),
+            word => Err(error_of(word)),
+        }
+    }
+
+    /// Does an operation of the inference context, of which there has to be one, and returns what that gives. The error is `NoSuchTerm`,
+    /// `NoSolution`, `NoSuchName`, `WrongTerms`, `Memory` or `Full`.
+    pub(crate) fn infer(&mut self, asked: &Operation) -> Result<u32, Error> {
+        let mut given = 0;
+        // SAFETY: the declaration is the library's, and the handle is open. Name and terms are two blocks of as many bytes and terms, which are
+        // borrowed here, and `given` may be written.
+        let word = unsafe {
+            celtisdarts_infer(
+                &mut self.handle,
+                asked.operation,
+                asked.name.as_ptr(),
+                asked.name.len(),
+                asked.terms.as_ptr(),
+                asked.terms.len(),
+                asked.number,
+                &mut given,
+            )
+        };
+        match word {
+            DONE => Ok(given),
+            word => Err(error_of(word)),
+        }
+    }
+
+    /// Writes a term of the inference context, of which there has to be one, into the buffer. The error is `NoSuchTerm` or `Memory`.
+    pub(crate) fn infer_text(&mut self, term: u32, buffer: &mut Vec<u8>) -> Result<(), Error> {
+        let word = into_buffer(buffer, |at, room, needed| {
+            // SAFETY: the declaration is the library's, the handle is open, and the buffer is a block of so many bytes.
+            unsafe { celtisdarts_infer_text(&mut self.handle, term, at, room, needed) }
+        });
+        match word {
+            DONE => Ok(()),
             word => Err(error_of(word)),
         }
     }

@@ -72,6 +72,14 @@ pub enum Error {
     TooLong,
     /// The text declares no crate of that name.
     NoSuchCrate,
+    /// The context has no term, or no obligation, of that number: it is one of another context, or a rollback took it.
+    NoSuchTerm,
+    /// No solution of all that was asked makes the terms equal.
+    NoSolution,
+    /// The crate sees no struct, or no trait, of that name.
+    NoSuchName,
+    /// The terms are not those that are taken: they are more, fewer, or of other kinds.
+    WrongTerms,
     /// A request for memory was refused, or no thread could be started.
     Memory,
     /// A table of terms, of goals or of answers was full.
@@ -87,6 +95,12 @@ impl fmt::Display for Error {
             Error::SeveralLines => f.write_str("the question is several lines"),
             Error::TooLong => f.write_str("text and question are longer than 67,108,864 bytes"),
             Error::NoSuchCrate => f.write_str("the text declares no such crate"),
+            Error::NoSuchTerm => f.write_str("the context has no such term or obligation"),
+            Error::NoSolution => f.write_str("no solution makes the terms equal"),
+            Error::NoSuchName => f.write_str("the crate sees no struct or trait of that name"),
+            Error::WrongTerms => {
+                f.write_str("other terms are taken: more, fewer, or of other kinds")
+            }
             Error::Memory => f.write_str("out of memory"),
             Error::Full => f.write_str("a table is full"),
         }

@@ -16,7 +16,8 @@ const FIRST_ROOM: usize = 1024;
 /// Its language is described in `docs/FORMAT.md`. It may be shared by threads, and a clone shares it; who asks makes a [`Session`].
 ///
 /// Its sessions share what was read and found. The text is read once more only for calls that several threads make at once, or if there are
-/// sessions for more crates than one reading keeps ([`Session`]). There are at most as many readings as sessions or calls at once.
+/// sessions for more crates than one reading keeps ([`Session`]). An inference context ([`Infer`](crate::Infer)) has a reading for itself, and
+/// counts as a session. There are at most as many readings as sessions and calls at once.
 ///
 /// ```
 /// use celtisdarts::{Depth, Workspace};
@@ -47,13 +48,15 @@ struct Read {
 struct Readings {
     /// Those that no call uses now, the latest last.
     idle: Vec<Reading>,
-    /// How many sessions there are.
+    /// How many inference contexts have. They will be idle again.
+    lent: usize,
+    /// How many sessions there are, with those of inference contexts.
     sessions: usize,
 }
 
 /// A reading of a text.
-struct Reading {
-    asker: Asker,
+pub(crate) struct Reading {
+    pub(crate) asker: Asker,
     /// The crates in which it was asked, by their places.
     crates: Vec<usize>,
 }
@@ -73,7 +76,7 @@ impl Read {
     fn idle(&self, number: usize) -> Option<Reading> {
         let mut readings = self.readings();
         let most = self.most_crates();
-        let is_enough = readings.idle.len() * most >= readings.sessions;
+        let is_enough = (readings.idle.len() + readings.lent) * most >= readings.sessions;
         let idle = &mut readings.idle;
         let place = idle
             .iter()
@@ -89,12 +92,8 @@ impl Read {
         }
     }
 
-    /// Makes a call about a crate with a reading that no other call uses, and keeps that for later ones.
-    fn ask<T>(
-        &self,
-        number: usize,
-        call: impl FnOnce(&mut Asker) -> Result<T, Error>,
-    ) -> Result<T, Error> {
+    /// Takes out a reading for a crate, which no other call uses.
+    fn take(&self, number: usize) -> Result<Reading, Error> {
         let mut reading = match self.idle(number) {
             Some(reading) => reading,
             None => Reading {
@@ -105,9 +104,36 @@ impl Read {
         if !reading.crates.contains(&number) {
             reading.crates.push(number);
         }
+        Ok(reading)
+    }
+
+    /// Makes a call about a crate with a reading that no other call uses, and keeps that for later ones.
+    fn ask<T>(
+        &self,
+        number: usize,
+        call: impl FnOnce(&mut Asker) -> Result<T, Error>,
+    ) -> Result<T, Error> {
+        let mut reading = self.take(number)?;
         let answer = call(&mut reading.asker);
         self.readings().idle.push(reading);
         answer
+    }
+
+    /// Takes out a reading for an inference context of a crate, which is begun.
+    fn lend(&self, number: usize) -> Result<Reading, Error> {
+        let mut reading = self.take(number)?;
+        let begun = reading.asker.infer_begin(number as u32);
+        let mut readings = self.readings();
+        match begun {
+            Ok(()) => {
+                readings.lent += 1;
+                Ok(reading)
+            }
+            Err(error) => {
+                readings.idle.push(reading);
+                Err(error)
+            }
+        }
     }
 
     /// Notes that a session is gone: no more readings stay than there are sessions, and one.
@@ -115,7 +141,8 @@ impl Read {
         let mut readings = self.readings();
         readings.sessions -= 1;
         let most = readings.sessions.max(1);
-        let excess = readings.idle.len().saturating_sub(most);
+        let excess = (readings.idle.len() + readings.lent).saturating_sub(most);
+        let excess = excess.min(readings.idle.len());
         readings.idle.drain(..excess);
     }
 }
@@ -157,6 +184,7 @@ impl Workspace {
                         asker,
                         crates: Vec::new(),
                     }],
+                    lent: 0,
                     sessions: 0,
                 }),
             })
@@ -189,11 +217,7 @@ impl Workspace {
             .iter()
             .position(|it| it == name)
             .ok_or(Error::NoSuchCrate)?;
-        self.read.readings().sessions += 1;
-        Ok(Session {
-            workspace: self.clone(),
-            number,
-        })
+        Ok(Session::new(self, number))
     }
 }
 
@@ -251,6 +275,35 @@ pub struct Session {
 }
 
 impl Session {
+    fn new(workspace: &Workspace, number: usize) -> Session {
+        workspace.read.readings().sessions += 1;
+        Session {
+            workspace: workspace.clone(),
+            number,
+        }
+    }
+
+    /// Takes out a reading with an inference context, and a session to hold it. The error is `Memory` or `Full`.
+    pub(crate) fn lend(&self) -> Result<(Session, Reading), Error> {
+        let (read, number) = (Arc::clone(&self.workspace.read), self.number);
+        let reading = self
+            .workspace
+            .depth()
+            .with_stack(move || read.lend(number))?;
+        Ok((Session::new(&self.workspace, number), reading))
+    }
+
+    /// Ends the context of a reading that was taken out, which is idle then. It is closed where that is refused.
+    pub(crate) fn give_back(&self, mut reading: Reading) {
+        let ended = self.workspace.depth().with_stack(move || {
+            reading.asker.infer_end()?;
+            Ok(reading)
+        });
+        let mut readings = self.workspace.read.readings();
+        readings.lent -= 1;
+        readings.idle.extend(ended.ok());
+    }
+
     /// The crate that it asks in.
     pub fn crate_name(&self) -> &str {
         &self.workspace.read.crates[self.number]
@@ -341,5 +394,36 @@ impl fmt::Debug for Session {
         f.debug_struct("Session")
             .field("crate_name", &self.crate_name())
             .finish_non_exhaustive()
+    }
+}
+
+#[cfg(test)]
+mod tests {
+    use super::*;
+
+    /// How many readings are idle, how many contexts have, and how many sessions there are.
+    fn counts(workspace: &Workspace) -> (usize, usize, usize) {
+        let readings = workspace.read.readings();
+        (readings.idle.len(), readings.lent, readings.sessions)
+    }
+
+    #[test]
+    fn a_context_gives_its_reading_back() {
+        let workspace = Workspace::parse("crate a\n", Depth::default()).unwrap();
+        let session = workspace.session("a").unwrap();
+        assert_eq!(counts(&workspace), (1, 0, 1));
+        let first = session.infer().unwrap();
+        assert_eq!(counts(&workspace), (0, 1, 2));
+        session.prove("u8: Copy").unwrap();
+        assert_eq!(counts(&workspace), (1, 1, 2));
+        let second = session.infer().unwrap();
+        session.prove("u8: Copy").unwrap();
+        assert_eq!(counts(&workspace), (1, 2, 3));
+        drop(first);
+        assert_eq!(counts(&workspace), (1, 1, 2));
+        drop(session);
+        assert_eq!(counts(&workspace), (0, 1, 1));
+        drop(second);
+        assert_eq!(counts(&workspace), (1, 0, 0));
     }
 }

@@ -9,9 +9,12 @@ use std::path::{Path, PathBuf};
 #[derive(Clone, Debug, PartialEq, Eq)]
 enum Crossing {
     U32,
+    U64,
     Size,
     /// A pointer to bytes that are read.
     Read,
+    /// A pointer to terms that are read, by their numbers.
+    Terms,
     /// A pointer to bytes that are written.
     Written,
     /// A pointer to a place that is written: of a number, a size, a pointer or a handle.
@@ -55,7 +58,9 @@ fn of_library(ty: &str) -> Vec<Crossing> {
         "Global" => vec![],
         "&[u8]" => vec![Read, Size],
         "&mut [u8]" => vec![Written, Size],
+        "&[u32]" => vec![Terms, Size],
         "u32" => vec![U32],
+        "u64" => vec![U64],
         "&mut usize" => vec![SizePlace],
         "&mut *mut u8" => vec![PointerPlace],
         "&mut Handle" => vec![HandlePlace],
@@ -69,8 +74,10 @@ fn of_rust(ty: &str) -> Vec<Crossing> {
     match ty {
         "*const u8" => vec![Read],
         "*mut u8" => vec![Written],
+        "*const u32" => vec![Terms],
         "usize" => vec![Size],
         "u32" => vec![U32],
+        "u64" => vec![U64],
         "&mut usize" => vec![SizePlace],
         "&mut *mut u8" => vec![PointerPlace],
         "&mut Handle" => vec![HandlePlace],
@@ -84,8 +91,10 @@ fn of_c(ty: &str) -> Vec<Crossing> {
     match ty {
         "const uint8_t *" => vec![Read],
         "uint8_t *" => vec![Written],
+        "const uint32_t *" => vec![Terms],
         "size_t" => vec![Size],
         "uint32_t" => vec![U32],
+        "uint64_t" => vec![U64],
         "size_t *" => vec![SizePlace],
         "void **" => vec![PointerPlace],
         "celtisdarts_handle *" => vec![HandlePlace],
@@ -99,8 +108,10 @@ fn of_python(ty: &str) -> Vec<Crossing> {
     match ty {
         "READ" => vec![Read],
         "WRITTEN" => vec![Written],
+        "NUMBERS" => vec![Terms],
         "c_size_t" => vec![Size],
         "c_uint32" => vec![U32],
+        "c_uint64" => vec![U64],
         "POINTER(c_size_t)" => vec![SizePlace],
         "POINTER(c_void_p)" => vec![PointerPlace],
         "POINTER(Handle)" => vec![HandlePlace],
@@ -258,7 +269,8 @@ fn words_and_the_version_of_the_calls_are_the_same_everywhere() {
         read("bindings/rust/sys/src/lib.rs"),
     );
     let words = constants(&c, "CELTISDARTS_", " = ");
-    assert_eq!(words.len(), 11);
+    let operations = words.keys().filter(|it| it.starts_with("INFER_")).count();
+    assert_eq!((words.len() - operations, operations), (17, 22));
     let mut found = constants(&rust, "pub const ", ": u32 = ");
     let version = found.remove("ABI_VERSION").unwrap();
     assert_eq!(found, words);
@@ -268,6 +280,18 @@ fn words_and_the_version_of_the_calls_are_the_same_everywhere() {
     );
     let python = read("bindings/python/celtisdarts.py");
     assert_eq!(constants(&python, "", " = ")["ABI_VERSION"], version);
+}
+
+#[test]
+fn python_has_the_operations_of_the_header() {
+    let c = read("bindings/c/celtisdarts.h");
+    let python = read("bindings/python/celtisdarts.py");
+    let (_, block) = python.split_once("class Operation(").unwrap();
+    let (block, _) = block.split_once("\n\n\n").unwrap();
+    assert_eq!(
+        constants(block, "", " = "),
+        constants(&c, "CELTISDARTS_INFER_", " = ")
+    );
 }
 
 #[test]

@@ -1,23 +1,18 @@
 //! The text of the toy language: types, bounds and calls are names with arguments in brackets.
 
-use std::collections::HashMap;
-
-/// Values of names: of variables `?x`, or of parameters.
-pub type Values = HashMap<String, String>;
-
 const INTEGERS: &str = "i8 i16 i32 i64 i128 isize u8 u16 u32 u64 u128 usize";
 
-/// Whether it ends a word. A variable `?x` is one word.
+/// Whether it ends a word. A variable `?0t` is one word.
 pub fn is_sign(sign: char) -> bool {
     !sign.is_ascii_alphanumeric() && sign != '_' && sign != '?'
 }
 
-/// The text with values in place of names, in these values too.
-pub fn filled(values: &Values, text: &str) -> String {
+/// The type with `_` in place of each variable, as rustc prints it.
+pub fn without_variables(text: &str) -> String {
     let pieces = text.split_inclusive(is_sign).map(|piece| {
         let word = piece.trim_end_matches(is_sign);
-        let value = values.get(word).map(|it| filled(values, it));
-        value.unwrap_or(word.into()) + &piece[word.len()..]
+        let shown = if word.starts_with('?') { "_" } else { word };
+        shown.to_string() + &piece[word.len()..]
     });
     pieces.collect()
 }
@@ -48,21 +43,32 @@ pub fn number_type(word: &str) -> Option<&str> {
     (is_integer && suffix != word).then_some(suffix)
 }
 
-/// The parameters `T` and the rest `(T) -> V<T> where T: Num` of a function `f<T>(T) -> V<T> where T: Num`.
-pub fn params(function: &str) -> (Vec<&str>, &str) {
-    let (head, rest) = function.split_at(function.find('(').unwrap_or(0));
-    (parts(head).1, rest)
+/// A function `f<T>(T) -> V<T> where T: Num`: its parameters, inputs, output and bounds.
+pub struct Function<'t> {
+    pub params: Vec<&'t str>,
+    pub inputs: Vec<&'t str>,
+    pub output: &'t str,
+    pub bounds: Vec<&'t str>,
 }
 
-/// The inputs `(T)`, the output `V<T>` and the bounds of such a rest.
-pub fn signature(rest: &str) -> (&str, &str, Vec<&str>) {
-    let (head, bounds) = rest.split_once(" where ").unwrap_or((rest, ""));
-    let (inputs, output) = head.split_once(" -> ").unwrap_or((head, "()"));
-    (inputs, output, items(bounds))
+impl<'t> Function<'t> {
+    pub fn of(text: &'t str) -> Function<'t> {
+        let (head, bounds) = text.split_once(" where ").unwrap_or((text, ""));
+        let (head, output) = head.split_once(" -> ").unwrap_or((head, "()"));
+        let (name, inputs) = head.split_at(head.find('(').unwrap_or(0));
+        Function {
+            params: parts(name).1,
+            inputs: parts(inputs).1,
+            output,
+            bounds: items(bounds),
+        }
+    }
 }
 
-/// The variables `?1`, `?2` that an answer has of its own. Those of the checker are `?t1`, `?t2`.
-pub fn own_variables(value: &str) -> impl Iterator<Item = &str> {
-    let words = value.split(is_sign);
-    words.filter(|it| it.starts_with('?') && !it.starts_with("?t"))
+/// A bound `T: Less<U>` as the trait `Less` and its arguments `T` and `U`.
+pub fn bound(text: &str) -> (&str, Vec<&str>) {
+    let (own, of) = text.split_once(": ").unwrap_or(("", text));
+    let (head, others) = parts(of);
+    let args = [own].into_iter().chain(others);
+    (head.trim_end_matches('<'), args.collect())
 }
