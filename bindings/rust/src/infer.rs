@@ -47,7 +47,7 @@ pub enum Standing {
 ///
 /// A *solution* gives each variable a value, so that all that were made equal are equal, and all that was registered has a proof. No solution is
 /// lost. What is done has a proof at each solution that is left. [`Error::NoSolution`], a refused obligation and `false` of [`Infer::can_eq`]
-/// say that there is no solution. This is proved of the library's calls (`docs/PROMISES.md` of the repository).
+/// say that there is no solution. This is proved of the library's calls that succeed (`docs/PROMISES.md` of the repository).
 ///
 /// It owns what it needs, as a [`Session`] does: a reading of the text, in which the workspace's sessions find again what it found. It may move
 /// to another thread. After an error it can be called again, after [`Error::Memory`] and [`Error::Full`] too, and nothing that was asked is lost: it
