@@ -1,5 +1,5 @@
 -- Obligations over one table are selected: what each round needs and preserves, and what the ends say.
-use Rattle.std.specs.Prelude.{ℕ, ◌≡◌, ◌≤◌, ◌⊎◌, List, Some, All, slice_get}
+use Rattle.std.specs.Prelude.{ℕ, ◌≡◌, ◌≤◌, ◌⊎◌, List, Option, Some, All, slice_get}
 use Rattle.std.specs.List.{AllZip}
 use Rattle.infer_table.specs.Content.{Table, content, Ready}
 use Rattle.infer_table.specs.Goals.{goal_trees}
@@ -25,6 +25,10 @@ use Rattle.fulfillment.specs.Obligations.{ObligationsHeld, ObligationIsKept, Obl
 use Rattle.fulfillment.specs.declared.obligation.Obligation.{Obligation}
 use Rattle.fulfillment.specs.declared.obligation.ObligationId.{ObligationId}
 use Rattle.fulfillment.specs.declared.obligation.Standing.TheVariants.{Done}
+
+-- There is an end, and so many frames reach it.
+abbrev pub IsReached : Option ℕ → ℕ → Type 0
+IsReached until frames = (end : ℕ) × (until ≡ Some end) × (end ≤ frames)
 
 module _ {Handler : Type 0} (handler : HandlerMeaning Handler) where
   -- The goals can be evaluated in the table: no search runs, the cache is justified, and all handles are the context's.

@@ -1,9 +1,9 @@
 //! Obligations over one table, and their selection.
 
-ghost use Rattle.std.specs.Prelude.{◌≡◌, ◌<◌, ◌⊎◌, List, [], All, Any, length, slice_get, map, Ok, Some, IfOk, IfErr, OnErr};
+ghost use Rattle.std.specs.Prelude.{◌≡◌, ◌<◌, ◌⊎◌, List, [], All, Any, length, slice_get, map, Ok, None, Some, true, IfOk, IfErr, OnErr};
 ghost use Rattle.solver_graph.specs.Shortages.{ContextFullAtLimit};
 ghost use Rattle.fulfillment.specs.Obligations.{HaveGrown, IsRegistered, SomeIsSpent, most_evaluations, standing_of, stood_of, total_left};
-ghost use Rattle.fulfillment.specs.Selecting.{CanSelect, EndsInFixingNothing, FixesNothing, HasSelected};
+ghost use Rattle.fulfillment.specs.Selecting.{CanSelect, EndsInFixingNothing, FixesNothing, HasSelected, IsReached};
 ghost use Rattle.fulfillment.specs.Selecting.{ObligationIsRefused, SomeStaysOpen, StartsFramesOfSelecting};
 ghost use Rattle.fulfillment.specs.declared.obligation.Obligation.{Obligation};
 ghost use Rattle.fulfillment.specs.declared.obligation.ObligationId.{ObligationId};
@@ -61,6 +61,18 @@ enum Round {
     Narrowed,
     /// No answer had values.
     Quiet,
+    /// Searches have started as many frames as they may. The obligations that were left are as they were.
+    Stopped,
+}
+
+/// Whether searches that have started so many frames are to stop.
+fn is_spent(until: Option<u64>, frames: u64) -> bool
+    ensures { result ≡ true → IsReached until frames }
+{
+    match until {
+        Some(end) => frames >= end,
+        None => false,
+    }
 }
 
 impl FulfillmentCtxt {
@@ -155,12 +167,14 @@ impl FulfillmentCtxt {
         Selected::AllDone
     }
 
-    /// Evaluates each goal that is not settled once, in order, up to the first that is refused.
+    /// Evaluates each goal that is not settled once, in order, up to the first that is refused. It stops before a goal where searches have
+    /// started `until` frames.
     fn select_in_turn<H: GoalHandler>(
         &mut self,
         search: &mut Search<H>,
         table: &mut InferCtxt,
         mode: TypingMode,
+        until: Option<u64>,
     ) -> Result<Round, Fault>
         requires { CanSelect H.meaning search.old.graph search.old.cache search.old.cx table.old self.old.obligations.items }
         ensures again { CanSelect H.meaning search.new.graph search.new.cache search.new.cx table.new self.new.obligations.items }
@@ -171,6 +185,7 @@ impl FulfillmentCtxt {
             → FixesNothing H.meaning mode search.old.graph search.old.cx table.old self.old.obligations.items self.new.obligations.items }
         ensures refused { (id : ObligationId) → result ≡ Ok (Round.Refused id)
             → ObligationIsRefused H.meaning mode search.old.graph search.old.cx table.old self.old.obligations.items id }
+        ensures stopped { result ≡ Ok Round.Stopped → IsReached until search.new.graph.frames }
         ensures frames { StartsFramesOfSelecting H.meaning (length self.old.obligations.items) mode search.old.graph search.old.cx table.old
             self.old.obligations.items search.new.graph }
         ensures limit { self.new.limit ≡ self.old.limit }
@@ -178,6 +193,9 @@ impl FulfillmentCtxt {
     {
         let mut has_narrowed = false;
         'each: for index in 0..self.obligations.len() {
+            if is_spent(until, search.graph.frames()) {
+                return Ok(Round::Stopped);
+            }
             let obligation = &mut self.obligations[index];
             match obligation.select(search, table, mode)? {
                 Step::Narrowed => has_narrowed = true,
@@ -206,8 +224,46 @@ impl FulfillmentCtxt {
     /// table and the goals hold the table's variables alone (`selecting_laws`). The goal of an obligation that is done has a proof at
     /// each solution of the table.
     ///
+    /// It stops before an evaluation where searches have started `until` frames in all, and gives `None`. What was found stays, and another
+    /// call goes on.
+    ///
     /// Fails with `Memory` if memory is refused, or if the table has no numbers for a goal's form or for its answer. Fails with `Full` only
     /// if a table of the context is at its limit. In each case what was found stays, and the goals can be selected again.
+    pub fn select_within<H: GoalHandler>(
+        &mut self,
+        search: &mut Search<H>,
+        table: &mut InferCtxt,
+        mode: TypingMode,
+        until: Option<u64>,
+    ) -> Result<Option<Selected>, Fault>
+        requires { CanSelect H.meaning search.old.graph search.old.cache search.old.cx table.old self.old.obligations.items }
+        ensures again { CanSelect H.meaning search.new.graph search.new.cache search.new.cx table.new self.new.obligations.items }
+        ensures selected { HasSelected H.meaning mode search.old.graph search.old.cache search.old.cx table.old self.old.obligations.items
+            search.new.graph search.new.cache search.new.cx table.new self.new.obligations.items }
+        ensures all_done { result ≡ Ok (Some Selected.AllDone) → All (λ (o : Obligation). o.standing ≡ Standing.Done) self.new.obligations.items }
+        ensures pending { result ≡ Ok (Some Selected.Pending) → EndsInFixingNothing H.meaning mode search.old.graph search.old.cache search.old.cx table.old
+            self.old.obligations.items search.new.graph search.new.cache search.new.cx table.new self.new.obligations.items }
+        ensures unsettled { result ≡ Ok (Some Selected.Pending)
+            → SomeIsSpent self.old.obligations.items ⊎ SomeStaysOpen H.meaning mode search.old.graph search.old.cx table.old self.old.obligations.items }
+        ensures refused { (id : ObligationId) → result ≡ Ok (Some (Selected.Refused id))
+            → ObligationIsRefused H.meaning mode search.old.graph search.old.cx table.old self.old.obligations.items id }
+        ensures stopped { result ≡ Ok None → IsReached until search.new.graph.frames }
+        ensures frames { StartsFramesOfSelecting H.meaning (most_evaluations self.old.obligations.items) mode search.old.graph search.old.cx table.old
+            self.old.obligations.items search.new.graph }
+        ensures limit { self.new.limit ≡ self.old.limit }
+        ensures full { IfErr result (ContextFullAtLimit search.new.cx) }
+    {
+        'rounds: loop {
+            match self.select_in_turn(search, table, mode, until)? {
+                Round::Refused(id) => return Ok(Some(Selected::Refused(id))),
+                Round::Narrowed => {}
+                Round::Quiet => return Ok(Some(self.outcome())),
+                Round::Stopped => return Ok(None),
+            }
+        }
+    }
+
+    /// [`FulfillmentCtxt::select_within`] that does not stop.
     ///
     /// rustc: `FulfillmentCtxt::select_where_possible`, where a yes with values is done too.
     pub fn select_where_possible<H: GoalHandler>(
@@ -232,12 +288,9 @@ impl FulfillmentCtxt {
         ensures limit { self.new.limit ≡ self.old.limit }
         ensures full { IfErr result (ContextFullAtLimit search.new.cx) }
     {
-        'rounds: loop {
-            match self.select_in_turn(search, table, mode)? {
-                Round::Refused(id) => return Ok(Selected::Refused(id)),
-                Round::Narrowed => {}
-                Round::Quiet => return Ok(self.outcome()),
-            }
+        match self.select_within(search, table, mode, None)? {
+            Some(selected) => Ok(selected),
+            None => unreachable!(),
         }
     }
 }

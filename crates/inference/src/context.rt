@@ -1,7 +1,7 @@
 //! The inference context.
 
 ghost use Rattle.std.specs.Prelude.{◌≡◌, ◌<◌, ◌⊎◌, true, false, [], ◌∷◌, All, length, slice_get, map};
-ghost use Rattle.std.specs.Prelude.{Some, Ok, Err, IfOk, IfErr, IsOk, OnOk, OnErr};
+ghost use Rattle.std.specs.Prelude.{None, Some, Ok, Err, IfOk, IfErr, IsOk, OnOk, OnErr};
 ghost use Rattle.type_terms.specs.Promised.Handles.{ArgHeld, Is, Keeps, types, consts, arg_trees};
 ghost use Rattle.type_terms.specs.Promised.Label.{of_type, of_const, infer};
 ghost use Rattle.type_terms.specs.Promised.Trees.{leaf};
@@ -16,7 +16,7 @@ ghost use Rattle.solver_graph.specs.Contexts.{Advances, IsReady};
 ghost use Rattle.solver_graph.specs.Searching.{solver_meaning};
 ghost use Rattle.solver_graph.specs.Shortages.{ContextFullAtLimit};
 ghost use Rattle.fulfillment.specs.Obligations.{IsRegistered, SomeIsSpent, standing_of};
-ghost use Rattle.fulfillment.specs.Selecting.{HasSelected, SomeStaysOpen};
+ghost use Rattle.fulfillment.specs.Selecting.{HasSelected, IsReached, SomeStaysOpen};
 ghost use Rattle.fulfillment.specs.declared.obligation.Obligation.{Obligation};
 ghost use Rattle.fulfillment.specs.declared.obligation.ObligationId.{ObligationId};
 ghost use Rattle.inference.specs.declared.context.Infer.{Infer};
@@ -258,11 +258,12 @@ impl Infer {
         self.goals.register(goal)
     }
 
-    /// Selects the registered goals: [`FulfillmentCtxt::select_where_possible`]. What answers fix stays in the table, whatever their certainty.
+    /// Selects the registered goals: [`FulfillmentCtxt::select_within`]. What answers fix stays in the table, whatever their certainty.
     ///
     /// - `AllDone`: each obligation is done.
     /// - `Refused`: this obligation was refused. Then there is no solution of all that was asked.
     /// - `Pending`: some obligation is pending, and another evaluation fixes nothing new.
+    /// - `None`: it stopped before an evaluation, since searches have started `until` frames in all. Another call goes on.
     ///
     /// Fails with `Memory` if memory is refused, or if the table has no numbers for a goal's form or for its answer. Fails with `Full` only
     /// if a table of the search's context is at its limit. What was found stays, and the context can be used further.
@@ -271,7 +272,8 @@ impl Infer {
     pub fn select_where_possible<H: GoalHandler>(
         &mut self,
         search: &mut Search<H>,
-    ) -> Result<Selected, Fault>
+        until: Option<u64>,
+    ) -> Result<Option<Selected>, Fault>
         requires { CanInfer H.meaning search.old.graph search.old.cache search.old.cx self.old }
         ensures again { CanInfer H.meaning search.new.graph search.new.cache search.new.cx self.new }
         ensures keeps { Keeps search.old.cx.interner.entries search.new.cx.interner.entries }
@@ -279,16 +281,18 @@ impl Infer {
         ensures grows { HasGrownFrom self.old self.new }
         ensures selected { HasSelected H.meaning self.old.mode search.old.graph search.old.cache search.old.cx self.old.table
             self.old.goals.obligations.items search.new.graph search.new.cache search.new.cx self.new.table self.new.goals.obligations.items }
-        ensures all_done { result ≡ Ok Selected.AllDone → All (λ (o : Obligation). o.standing ≡ Standing.Done) self.new.goals.obligations.items }
-        ensures unsettled { result ≡ Ok Selected.Pending → SomeIsSpent self.old.goals.obligations.items
+        ensures all_done { result ≡ Ok (Some Selected.AllDone)
+            → All (λ (o : Obligation). o.standing ≡ Standing.Done) self.new.goals.obligations.items }
+        ensures unsettled { result ≡ Ok (Some Selected.Pending) → SomeIsSpent self.old.goals.obligations.items
             ⊎ SomeStaysOpen H.meaning self.old.mode search.old.graph search.old.cx self.old.table self.old.goals.obligations.items }
-        ensures refused { (id : ObligationId) → result ≡ Ok (Selected.Refused id) → HaveNoSolutionWith H.meaning [] search.old.cx self.old }
+        ensures refused { (id : ObligationId) → result ≡ Ok (Some (Selected.Refused id)) → HaveNoSolutionWith H.meaning [] search.old.cx self.old }
+        ensures stopped { result ≡ Ok None → IsReached until search.new.graph.frames }
         ensures mode { self.new.mode ≡ self.old.mode }
         ensures limit { self.new.goals.limit ≡ self.old.goals.limit }
         ensures full { IfErr result (ContextFullAtLimit search.new.cx) }
     {
         self.goals
-            .select_where_possible(search, &mut self.table, self.mode)
+            .select_within(search, &mut self.table, self.mode, until)
     }
 
     /// The obligations, in the order in which they were registered. One that is pending has its cause, and one that was refused says so.

@@ -5,7 +5,7 @@ use Rattle.type_terms.specs.declared.Fault.{Fault}
 use Rattle.std.proofs.Math.Nat.{le_refl}
 use Rattle.fulfillment.specs.Leaving.{none}
 use Rattle.fulfillment.specs.Obligations.{ObligationIsSettled}
-use Rattle.fulfillment.specs.Selecting.{GoalStaysOpen}
+use Rattle.fulfillment.specs.Selecting.{GoalStaysOpen, IsReached}
 use Rattle.fulfillment.specs.declared.obligation.Obligation.{Obligation}
 use Rattle.fulfillment.specs.declared.obligation.ObligationId.{ObligationId}
 use Rattle.fulfillment.specs.declared.obligation.Step.TheVariants as step
@@ -152,5 +152,13 @@ returns-then-has_narrowed-clause-frames g c = start-within g.H.GoalHandler.meani
 
 pub returns-else-has_narrowed-clause-frames : goal.returns-else-has_narrowed-clause-frames
 returns-else-has_narrowed-clause-frames g c = start-within g.H.GoalHandler.meaning c.args.mode c.args.search.now.graph c.each.search.graph c.args.search.now.cache c.each.search.cache c.args.search.now.cx c.each.search.cx c.args.table.now c.each.table
+    c.args.self.now.obligations.items c.each.self.obligations.items c.requires.goals c.each.invariant.selected c.each.index (length c.args.self.now.obligations.items)
+    (omega (arith, c.each.auto.index-end, c.len-index-end.ensures, c.args.self.now.obligations.ok.0)) c.each.invariant.frames
+
+pub returns-then-is_spent-clause-stopped : goal.returns-then-is_spent-clause-stopped
+returns-then-is_spent-clause-stopped g c = λ _. subst (λ n. IsReached c.args.until n) c.frames.ensures (c.is_spent.ensures c.if-is_spent.true)
+
+pub returns-then-is_spent-clause-frames : goal.returns-then-is_spent-clause-frames
+returns-then-is_spent-clause-frames g c = start-within g.H.GoalHandler.meaning c.args.mode c.args.search.now.graph c.each.search.graph c.args.search.now.cache c.each.search.cache c.args.search.now.cx c.each.search.cx c.args.table.now c.each.table
     c.args.self.now.obligations.items c.each.self.obligations.items c.requires.goals c.each.invariant.selected c.each.index (length c.args.self.now.obligations.items)
     (omega (arith, c.each.auto.index-end, c.len-index-end.ensures, c.args.self.now.obligations.ok.0)) c.each.invariant.frames

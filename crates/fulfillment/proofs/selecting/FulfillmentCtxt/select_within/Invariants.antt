@@ -1,7 +1,7 @@
 use Rattle.std.proofs.Common.{◌≡◌, ◌-◌, ◌*◌, length}
 use Rattle.fulfillment.specs.Obligations.{total_left}
 use Rattle.fulfillment.specs.Selecting.{CanSelect, HasSelected, StartsFramesOfSelecting}
-use Rattle.fulfillment.proofs.selecting.FulfillmentCtxt.select_where_possible.Given as goal
+use Rattle.fulfillment.proofs.selecting.FulfillmentCtxt.select_within.Given as goal
 
 abbrev pub invariant-rounds : goal.invariant-rounds
 invariant-rounds g l = record {
