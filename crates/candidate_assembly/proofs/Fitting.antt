@@ -64,7 +64,7 @@ module _ (d : Items) where
   struct-found s ss def e = ap (λ o. option_map_or (λ x. same_sorts ss (map sort_of_param x.params.items)) o true) e
 
 -- ---- what tests tell
-of-trait : (ss : List Sort) (o : Option TraitDef) → option_map_or (λ def. same_sorts ss (sorts_of_params def)) o true ≡ true → IfSome o (λ def. ss ≡ sorts_of_params def)
+pub of-trait : (ss : List Sort) (o : Option TraitDef) → option_map_or (λ def. same_sorts ss (sorts_of_params def)) o true ≡ true → IfSome o (λ def. ss ≡ sorts_of_params def)
 of-trait ss None e = tt
 of-trait ss (Some def) e = sorts-are ss (sorts_of_params def) e
 
@@ -72,7 +72,7 @@ of-struct : (ss : List Sort) (o : Option AdtDef) → option_map_or (λ def. same
 of-struct ss None e = tt
 of-struct ss (Some def) e = sorts-are ss (map sort_of_param def.params.items) e
 
-shut-is : (t : Trees) → is_shut t ≡ true → outer_binder t ≡ 0
+pub shut-is : (t : Trees) → is_shut t ≡ true → outer_binder t ≡ 0
 shut-is t e = eqb-true (outer_binder t) 0 e
 
 pub is-true : (b : Bool) → not b ≡ true → b ≡ false

@@ -81,8 +81,8 @@ fn are_for(args: &[GenericArgKind], params: &[GenericParamKind]) -> bool
     }
 }
 
-/// Whether the trait is declared and the arguments are for its parameters, Self first.
-fn args_are_for_trait(
+/// Whether the arguments are for the trait's parameters, Self first, in number and kind. So it is where the trait is not declared.
+pub fn args_are_for_trait(
     cx: &Interner,
     declarations: &Declarations,
     id: TraitId,

@@ -57,7 +57,7 @@ nth-own n none i h = (tt, tt, tt)
 nth-own n (tree l c o) zero h = (h.0, h.1, tt)
 nth-own n (tree l c o) (suc i) h = nth-own n o i h.2
 
-put-own : (n : Sort → ℕ) (I : Trees) → AreOwn n I → (d : ℕ) (x : Trees) → some_node is_variable x ≡ false → AreOwn n (instantiate d I x)
+pub put-own : (n : Sort → ℕ) (I : Trees) → AreOwn n I → (d : ℕ) (x : Trees) → some_node is_variable x ≡ false → AreOwn n (instantiate d I x)
 put-own n I h d none e = tt
 put-own n I h d (tree (param s i) c o) e =
     own-append n (shift zero d (nth I i)) (instantiate d I o) (shift-own n zero d (nth I i) (nth-own n I i h)) (put-own n I h d o (next-shut is_variable (param s i) c o e))

@@ -6,9 +6,7 @@ ghost use Rattle.sessions.specs.LeftSessions.{LeavesView, StaysLeft};
 use crate::seen_view::SeenView;
 use candidate_assembly::solver::Solver;
 use declarations::declarations::Declarations;
-use search_graph::{GlobalCache, SearchGraph};
-use solver_graph::{Search, SolverCx};
-use std::alloc::Global;
+use solver_graph::Search;
 use std::mem;
 use type_terms::CrateId;
 use type_terms::interner::Interner;
@@ -37,21 +35,6 @@ impl Drop for LeftSession {
 }
 
 impl LeftSession {
-    /// What stands in the place of what was left while a session goes on with that. It has no view, and takes no memory.
-    pub fn nothing(alloc: Global) -> LeftSession {
-        let crate_id = CrateId { index: 0 };
-        let solver = Solver::new(Declarations::new(alloc, crate_id));
-        LeftSession {
-            crate_id,
-            search: Search {
-                graph: SearchGraph::new(alloc, 1),
-                cache: GlobalCache::new(alloc),
-                cx: SolverCx::new(alloc, Interner::new(alloc, 0), solver, 0),
-            },
-            frames_before: 0,
-        }
-    }
-
     /// How many frames searches over its interner have started, with those that `count` added. A frame leaves some terms, a goal and a
     /// result.
     pub fn frames(&self) -> u64 {
