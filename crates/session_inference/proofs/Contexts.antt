@@ -6,7 +6,7 @@ use Rattle.type_terms.specs.Promised.Handles.{Entry, Keeps, SomeKindIsFull}
 use Rattle.type_terms.specs.Promised.Label.{Sort}
 use Rattle.type_terms.specs.Promised.Trees.{Trees}
 use Rattle.type_terms.specs.Promised.Proofs.{HasProof}
-use Rattle.type_terms.specs.Promised.Worlds.{Reference, World}
+use Rattle.type_terms.specs.Promised.Worlds.{World}
 use Rattle.declarations.specs.Items.{written}
 use Rattle.infer_table.specs.Content.{content, variables_of}
 use Rattle.infer_table.specs.Goals.{goal_trees}
@@ -41,7 +41,6 @@ use Rattle.fulfillment.specs.Selecting.{HasSelected, SomeStaysOpen}
 use Rattle.fulfillment.specs.declared.obligation.Obligation.{Obligation}
 use Rattle.fulfillment.specs.declared.obligation.Standing.TheVariants.{Done}
 use Rattle.text_language.specs.Promised.Declarations.{Declarations}
-use Rattle.sessions.specs.Asking.{goal_alone}
 use Rattle.sessions.specs.Promised.Shortages.{IsAtLimit, terms}
 use Rattle.sessions.specs.Promised.Subjects.{Subject, StaysOn}
 use Rattle.sessions.specs.Proving.{SolverAdvances}
@@ -50,7 +49,7 @@ use Rattle.sessions.specs.Sessions.{IsSessionWithin, SolverRests}
 use Rattle.sessions.proofs.Keeping.{limits-stay, session-kept, session-rests}
 use Rattle.sessions.proofs.ShortCalls.{HoldsAs}
 use Rattle.inference.specs.Inference.{Demand, proved, HaveNoSolutionWith, IsFaithfulTo, OwnVariables, SolvesDemands}
-use Rattle.inference.specs.Inferring.{CanInfer, GoalIsOver, HasGrownFrom, HasOneMore, IsAsBefore, IsAskedFurther, IsOverVariables, ShowsSolutions, with_own_variable}
+use Rattle.inference.specs.Inferring.{CanInfer, HasGrownFrom, HasOneMore, IsAsBefore, IsAskedFurther, ShowsSolutions, with_own_variable}
 use Rattle.inference.specs.declared.context.Infer.{Infer}
 use Rattle.inference.proofs.Calls.{can-same, faithful-same}
 use Rattle.inference.proofs.Growing.{itself}
@@ -287,7 +286,7 @@ module _ (d : Declarations) (c n h : ℕ) (x y : SolverCx Solver) (g k : SearchS
         let e = can.faithful in
         (more-in s v i j f e.0 e.1 e.2 y (own-context d c n h y k ls within)).own_known s v (ap (λ b. b || e.0 s v) (is_variable-self s v))
 
-full-of : (s : Subject) (x : SolverCx Solver) → HoldsAs x s → SomeKindIsFull (entries_of x) x.interner.limit → IsAtLimit s
+pub full-of : (s : Subject) (x : SolverCx Solver) → HoldsAs x s → SomeKindIsFull (entries_of x) x.interner.limit → IsAtLimit s
 full-of s x h k = terms (subst (λ (es : List Entry). SomeKindIsFull es s.handles) (sym h.terms) (subst (SomeKindIsFull (entries_of x)) h.limits.terms k))
 
 -- an equation fails with `Full` only if its session is at a limit
@@ -324,7 +323,3 @@ leaves-after s t u i j stays rests l = record {
 
 pub asked-after : (s t u : Subject) (i j : Infer) (further : List Demand) → CanInferIn s i → LetsRest s t → IsAskedFurtherIn further t i u j → IsAskedFurtherIn further s i u j
 asked-after s t u i j further can rests f own asked faithful = f own asked (rests.faithful i can own asked faithful)
-
--- ---- goals without where-clauses
-pub alone-over : (n : Sort → ℕ) (r : Reference) → IsOverVariables n r.args → GoalIsOver n (goal_alone r)
-alone-over n r h = record { environment = (tt, tt); predicate = ((h.0, tt), (h.1, tt)) }

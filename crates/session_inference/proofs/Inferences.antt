@@ -1,9 +1,9 @@
 -- Terms and snapshots of inference sessions.
 use Rattle.std.specs.Prelude.{IfErr, IfOk, IfSome, OnErr, OnOk, is_some, option_to_list}
-use Rattle.std.proofs.Common.{◌≡◌, ◌∙◌, ◌≤◌, ◌⊎◌, inl, inr, ℕ, zero, suc, arith, true, false, refl, sym, ap, subst, List, [], ◌∷◌, ◌++◌, length, map, take, Option, Some, None, slice_get, Result, Ok, Err}
+use Rattle.std.proofs.Common.{◌≡◌, ◌∙◌, ◌≤◌, ◌⊎◌, inl, inr, ℕ, zero, suc, arith, Bool, true, false, ◌||◌, refl, sym, ap, subst, List, [], ◌∷◌, ◌++◌, length, map, take, Option, Some, None, slice_get, Result, Ok, Err}
 use Rattle.type_terms.specs.Promised.Handles.{Entry, Keeps, arg_trees}
 use Rattle.type_terms.specs.Promised.Label.{Sort}
-use Rattle.type_terms.specs.Promised.Trees.{Trees, ◌+++◌}
+use Rattle.type_terms.specs.Promised.Trees.{Trees}
 use Rattle.type_terms.specs.Kinds.{args_trees}
 use Rattle.type_terms.proofs.ListBasics.{append-none, first-same, rest-same}
 use Rattle.type_terms.specs.Kept.{arg-held-later, arg-trees-later}
@@ -18,15 +18,22 @@ use Rattle.infer_table.proofs.KnownUnknowns.{known-more}
 use Rattle.overlap_check.proofs.Owning.{NoFewer}
 use Rattle.sessions.specs.Promised.Shortages.{IsAtLimit, SessionFullAtLimit}
 use Rattle.sessions.specs.Promised.Subjects.{Subject, StaysOn}
-use Rattle.inference.specs.Inferring.{HasGrownFrom, IsAsBefore, IsSnapshotOf}
+use Rattle.candidate_assembly.specs.SolverMeaning.{solver_by_view}
+use Rattle.candidate_assembly.specs.declared.solver.Solver.{Solver}
+use Rattle.infer_table.specs.Solutions.{Assignment, is_same_variable}
+use Rattle.inference.specs.Inference.{AgreeOnOwn, Demand, IsFaithfulTo, OwnVariables}
+use Rattle.inference.specs.Inferring.{HasGrownFrom, IsAsBefore, IsSnapshotOf, with_own_variable}
+use Rattle.solver_graph.specs.declared.context.SolverCx.{SolverCx}
 use Rattle.inference.specs.declared.context.Infer.{Infer}
 use Rattle.inference.proofs.Growing.{further, itself}
-use Rattle.session_inference.specs.Contexts.{AreTermsOver, CanInferIn, IsTermOver, LeavesInferring, LetsRest}
-use Rattle.session_inference.specs.Inferences.{AreTaken, AreTakenAfter, HasNewTerm, Inference, InfersOn, IsInferring, IsOpenSnapshot, terms_numbered, trees_of_term}
+use Rattle.session_inference.specs.Contexts.{AreTermsOver, CanInferIn, HasOneMoreIn, IsAskedFurtherIn, IsTermOver, LeavesInferring, LetsRest}
+use Rattle.session_inference.specs.Inferences.{AreTaken, AreTakenAfter, AsksFurther, HasNewTerm, Inference, InfersOn, IsInferring, IsOpenSnapshot, terms_numbered}
+use Rattle.session_inference.specs.declared.assumption.Assumption.{Assumption}
 use Rattle.session_inference.specs.declared.error.InferenceError.{InferenceError}
 use Rattle.session_inference.specs.declared.error.InferenceError.TheVariants as error
 use Rattle.session_inference.specs.declared.open_snapshot.OpenSnapshot.{OpenSnapshot}
 use Rattle.session_inference.specs.declared.term_id.TermId.{TermId}
+use Rattle.session_inference.proofs.Assumed.{terms-found}
 use Rattle.session_inference.proofs.Restored.{can-as, grown-same-context}
 
 -- ---- terms
@@ -223,11 +230,11 @@ inferring-numbered s t i j ts us ms m (Ok id) h l x added refused =
     subst (λ zs. IsInferring t j zs ms) (sym added.2) (inferring-on s t i j ts (added.0 ∷ []) ms h l (over, tt))
 inferring-numbered s t i j ts us ms m (Err f) h l x added refused = subst (λ zs. IsInferring t j zs ms) (sym refused) (inferring-same s t i j ts ms h l)
 
-pub new-term : (s : Subject) (i : Infer) (ts : List GenericArgKind) (ms : List OpenSnapshot) (w : Inference) (t : Trees) (m : Result GenericArgKind Fault) (r : Result TermId Fault)
+pub new-term : (s : Subject) (i : Infer) (ts : List GenericArgKind) (ms : List OpenSnapshot) (qs : List Assumption) (w : Inference) (t : Trees) (m : Result GenericArgKind Fault) (r : Result TermId Fault)
     → IfOk r (λ id. id.index ≡ length ts) → IfOk r (λ id. (a : GenericArgKind) × (m ≡ Ok a) × (w.terms ≡ ts ++ a ∷ [])) → IfOk m (λ a. arg_trees w.subject.terms a ≡ t)
-    → IfOk r (HasNewTerm (record { subject = s; context = i; terms = ts; snapshots = ms }) w t)
-new-term s i ts ms w t m (Ok id) n added x = record { number = n; term = added.0; added = added.2; is = subst (λ z. IfOk z (λ a. arg_trees w.subject.terms a ≡ t)) added.1 x }
-new-term s i ts ms w t m (Err f) n added x = tt
+    → IfOk r (HasNewTerm (record { subject = s; context = i; terms = ts; snapshots = ms; assumptions = qs }) w t)
+new-term s i ts ms qs w t m (Ok id) n added x = record { number = n; term = added.0; added = added.2; is = subst (λ z. IfOk z (λ a. arg_trees w.subject.terms a ≡ t)) added.1 x }
+new-term s i ts ms qs w t m (Err f) n added x = tt
 
 pub on-numbered : (m : Result GenericArgKind Fault) (r : Result TermId Fault) (ts us : List GenericArgKind) (P : Type 0) → IfOk r (λ id. (a : GenericArgKind) × (m ≡ Ok a) × (us ≡ ts ++ a ∷ [])) → OnOk m P → OnOk r P
 on-numbered m (Ok id) ts us P added p = subst (λ z. OnOk z P) added.1 p
@@ -251,16 +258,16 @@ inferring-there s t i j ts us ms m (Ok id) h l x added refused =
     subst (λ zs. IsInferring t j zs ms) (sym added.2) (inferring-on s t i j ts (added.0 ∷ []) ms h l (over, tt))
 inferring-there s t i j ts us ms m (Err f) h l x added refused = subst (λ zs. IsInferring t j zs ms) (sym refused) (inferring-same s t i j ts ms h l)
 
-pub new-term-there : (s : Subject) (i : Infer) (ts : List GenericArgKind) (ms : List OpenSnapshot) (w : Inference) (t : Trees) (m : Result (Option GenericArgKind) Fault) (r : Result TermId InferenceError)
+pub new-term-there : (s : Subject) (i : Infer) (ts : List GenericArgKind) (ms : List OpenSnapshot) (qs : List Assumption) (w : Inference) (t : Trees) (m : Result (Option GenericArgKind) Fault) (r : Result TermId InferenceError)
     → IfOk r (λ id. id.index ≡ length ts) → IfOk r (λ id. (a : GenericArgKind) × (m ≡ Ok (Some a)) × (w.terms ≡ ts ++ a ∷ [])) → IfOk m (λ o. IfSome o (λ a. arg_trees w.subject.terms a ≡ t))
-    → IfOk r (HasNewTerm (record { subject = s; context = i; terms = ts; snapshots = ms }) w t)
-new-term-there s i ts ms w t m (Ok id) n added x = record {
+    → IfOk r (HasNewTerm (record { subject = s; context = i; terms = ts; snapshots = ms; assumptions = qs }) w t)
+new-term-there s i ts ms qs w t m (Ok id) n added x = record {
   number = n;
   term = added.0;
   added = added.2;
   is = subst (λ z. IfOk z (λ o. IfSome o (λ a. arg_trees w.subject.terms a ≡ t))) added.1 x;
 }
-new-term-there s i ts ms w t m (Err f) n added x = tt
+new-term-there s i ts ms qs w t m (Err f) n added x = tt
 
 pub full-there : (s : Subject) (m : Result (Option GenericArgKind) Fault) (r : Result TermId InferenceError) → ((f : Fault) → r ≡ Err (error.Fault f) → (f ≡ Memory) ⊎ (m ≡ Err f)) → IfErr m (SessionFullAtLimit s)
     → IfErr r (λ e. e ≡ error.Fault Full → IsAtLimit s)
@@ -280,13 +287,7 @@ all-there es n ts (id ∷ ids) [] h e = absurd cc
 all-there es n ts (id ∷ ids) (x ∷ xs) h e = (term-there es n ts id.index x h (first-same _ _ _ _ e), all-there es n ts ids xs h (rest-same _ _ _ _ e))
 
 pub terms-are : (v : Inference) (ids : List TermId) (xs : List GenericArgKind) → map (λ (id : TermId). slice_get v.terms id.index) ids ≡ map Some xs → terms_numbered v ids ≡ args_trees v.subject.terms xs
-terms-are v [] [] e = refl
-terms-are v [] (x ∷ xs) e = absurd cc
-terms-are v (id ∷ ids) [] e = absurd cc
-terms-are v (id ∷ ids) (x ∷ xs) e = both (ap (trees_of_term v.subject.terms) (first-same _ _ _ _ e)) (terms-are v ids xs (rest-same _ _ _ _ e))
-  where
-    both : {a b c d : Trees} → a ≡ b → c ≡ d → a +++ c ≡ b +++ d
-    both p q = cc
+terms-are v ids xs e = terms-found v.subject.terms v.terms ids xs e
 
 -- ---- snapshots that calls open and end
 pub inferring-taken : {T E : Type 0} (s : Subject) (i : Infer) (ts : List GenericArgKind) (ms ns : List OpenSnapshot) (m : OpenSnapshot) (r : Result T E) → IsInferring s i ts ms → IsSnapshotOf i m.context
@@ -294,10 +295,10 @@ pub inferring-taken : {T E : Type 0} (s : Subject) (i : Infer) (ts : List Generi
 inferring-taken s i ts ms ns m (Ok x) h snapshot all added refused = subst (IsInferring s i ts) (sym added) (inferring-opened s i ts ms m h snapshot all)
 inferring-taken s i ts ms ns m (Err e) h snapshot all added refused = subst (IsInferring s i ts) (sym refused) h
 
-pub taken-there : {T E : Type 0} (i : Infer) (ts : List GenericArgKind) (ms ns : List OpenSnapshot) (m : OpenSnapshot) (r : Result T E) → IsSnapshotOf i m.context → m.terms ≡ length ts → OnOk r (ns ≡ ms ++ m ∷ [])
-    → IfOk r (λ _. (o : OpenSnapshot) × (ns ≡ ms ++ o ∷ []) × IsSnapshotOf i o.context × (o.terms ≡ length ts))
-taken-there i ts ms ns m (Ok x) snapshot all added = (m, added, snapshot, all)
-taken-there i ts ms ns m (Err e) snapshot all added = tt
+pub taken-there : {T E : Type 0} (i : Infer) (ts : List GenericArgKind) (ms ns : List OpenSnapshot) (qs : List Assumption) (m : OpenSnapshot) (r : Result T E) → IsSnapshotOf i m.context → m.terms ≡ length ts
+    → m.assumptions ≡ length qs → OnOk r (ns ≡ ms ++ m ∷ []) → IfOk r (λ _. (o : OpenSnapshot) × (ns ≡ ms ++ o ∷ []) × IsSnapshotOf i o.context × (o.terms ≡ length ts) × (o.assumptions ≡ length qs))
+taken-there i ts ms ns qs m (Ok x) snapshot all assumed added = (m, added, snapshot, all, assumed)
+taken-there i ts ms ns qs m (Err e) snapshot all assumed added = tt
 
 pub inferring-popped : (s : Subject) (i : Infer) (ts : List GenericArgKind) (ms ns : List OpenSnapshot) (o : Option OpenSnapshot) → ms ≡ ns ++ option_to_list o → IsInferring s i ts ms → IsInferring s i ts ns
 inferring-popped s i ts ms ns None e h = subst (IsInferring s i ts) (e ∙ append-none ns) h
@@ -311,9 +312,49 @@ pub popped-none : (ms ns : List OpenSnapshot) (o : Option OpenSnapshot) → ms �
 popped-none ms ns None e h none = (none, sym (e ∙ append-none ns) ∙ none)
 popped-none ms ns (Some m) e h none = absurd cc
 
+-- ---- a call that fails
+-- after one that fails the context is faithful to what it was faithful to
+pub still-after : {T E : Type 0} (r : Result T E) (s t : Subject) (i j : Infer) → CanInferIn s i → LetsRest s t → OnErr r (j ≡ i) → OnErr r (IsAskedFurtherIn [] s i t j)
+still-after (Ok x) s t i j can rests h = tt
+still-after (Err e) s t i j can rests h = subst (λ (z : Infer). IsAskedFurtherIn [] s i t z) (sym h) (rests.faithful i can)
+
+-- fewer variables are own
+module _ (own : OwnVariables) (k : Sort) (v : ℕ) where
+  more-agrees : (s r : Assignment) → AgreeOnOwn (with_own_variable own k v) s r → AgreeOnOwn own s r
+  more-agrees s r h j w e = h j w (ap (λ b. is_same_variable j w k v || b) e ∙ or-true (is_same_variable j w k v))
+    where
+      or-true : (b : Bool) → b || true ≡ true
+      or-true true = refl
+      or-true false = refl
+
+  fewer-faithful : (asked : List Demand) (c : SolverCx Solver) (i : Infer) → IsFaithfulTo solver_by_view (with_own_variable own k v) asked c i → IsFaithfulTo solver_by_view own asked c i
+  fewer-faithful asked c i f = record {
+    own_known = λ j w e. f.own_known j w (ap (λ b. is_same_variable j w k v || b) e ∙ or-true (is_same_variable j w k v));
+    asked_known = f.asked_known;
+    registered = f.registered;
+    covers =
+        λ s h.
+        let z = f.covers s (record { sorted = h.sorted; meets = λ r sorted agrees. h.meets r sorted (more-agrees s r agrees) }) in
+        (z.0, more-agrees s z.0 z.1, z.2);
+    equations = f.equations;
+    done = f.done;
+  }
+    where
+      or-true : (b : Bool) → b || true ≡ true
+      or-true true = refl
+      or-true false = refl
+
+-- a variable more loses no solution
+pub still-with : {T E : Type 0} (r : Result T E) (k : Sort) (v : ℕ) (s t : Subject) (i j : Infer) → CanInferIn s i → LetsRest s t → OnOk r (HasOneMoreIn k v s i t j) → OnErr r (j ≡ i) → IsAskedFurtherIn [] s i t j
+still-with (Ok x) k v s t i j can rests h e = λ own asked f c of. fewer-faithful own k v asked c j (h own asked f c of)
+still-with (Err x) k v s t i j can rests h e = subst (λ (z : Infer). IsAskedFurtherIn [] s i t z) (sym e) (rests.faithful i can)
+
 -- ---- a call that does nothing
+pub still-itself : (v : Inference) → AsksFurther [] v v
+still-itself v = λ own asked f. f
+
 pub goes-on-itself : (v : Inference) → InfersOn v v
-goes-on-itself v = record { stays = record { declarations = refl; of_crate = refl; depth = refl; handles = refl; terms = λ i e h. h }; grows = itself v.context; snapshots = refl }
+goes-on-itself v = record { stays = record { declarations = refl; of_crate = refl; depth = refl; handles = refl; terms = λ i e h. h }; grows = itself v.context; snapshots = refl; assumptions = refl }
 
 pub leaves-itself : (s : Subject) (i : Infer) → CanInferIn s i → LeavesInferring s i s i
 leaves-itself s i can = record {

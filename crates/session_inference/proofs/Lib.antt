@@ -1,5 +1,7 @@
 mod Solvings
 mod Restored
+mod Faults
+mod Assumed
 mod Contexts
 mod Inferences
 mod OwnTerms

@@ -1,5 +1,5 @@
 -- What calls say of the terms that they make, and of their faults.
-use Rattle.std.specs.Prelude.{IfErr, IfOk, IfSome, IsOk, OnErr, OnOk, is_some}
+use Rattle.std.specs.Prelude.{IfErr, IfOk, IfSome, IsErr, IsOk, OnErr, OnOk, is_some}
 use Rattle.std.specs.Option.{option_map}
 use Rattle.std.proofs.Common.{◌≡◌, ◌∙◌, ◌<◌, ℕ, Bool, refl, sym, ap, subst, List, [], ◌∷◌, Option, Some, None, Result, Ok, Err}
 use Rattle.type_terms.specs.Promised.Handles.{Entry, ArgHeld, ArgsHeld, Is, arg_trees, consts, types}
@@ -74,6 +74,11 @@ pub on-made : {A B E F : Type 0} (r : Result A E) (m : Result B F) (P : Type 0) 
 on-made (Ok x) (Ok y) P i p = p
 on-made (Ok x) (Err f) P i p = absurd cc
 on-made (Err f) m P i p = tt
+
+pub err-both : {A B E F : Type 0} (r : Result A E) (m : Result B F) (P : Type 0) → OnErr r (IsErr m) → OnErr m P → OnErr r P
+err-both (Ok x) m P i p = tt
+err-both (Err e) (Ok y) P i p = absurd cc
+err-both (Err e) (Err f) P i p = p
 
 pub err-made : {A B : Type 0} (r : Result A Fault) (m : Result B Fault) (P : Type 0) → IfErr r (λ e. m ≡ Err e) → OnErr m P → OnErr r P
 err-made (Ok x) m P e p = tt

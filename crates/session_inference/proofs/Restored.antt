@@ -1,5 +1,5 @@
 -- Contexts that are as others.
-use Rattle.std.proofs.Common.{◌≡◌, ◌<◌, ◌∙◌, ℕ, true, sym, subst, List, All, Contains}
+use Rattle.std.proofs.Common.{◌≡◌, ◌<◌, ◌∙◌, ℕ, true, sym, subst, List, [], All, Contains}
 use Rattle.std.proofs.lemmas.List.Elements.{All-same}
 use Rattle.type_terms.specs.Promised.Handles.{Entry}
 use Rattle.type_terms.specs.Promised.Label.{Sort}
@@ -21,7 +21,7 @@ use Rattle.inference.specs.Inference.{Demand, proved, DemandIsOver, IsFaithfulTo
 use Rattle.inference.specs.Inferring.{GoalIsOver, HasGrownFrom, IsAsBefore, ValuesAreOver}
 use Rattle.inference.specs.declared.context.Infer.{Infer}
 use Rattle.inference.proofs.Growing.{grown-same}
-use Rattle.session_inference.specs.Contexts.{CanInferIn, IsOverTerms}
+use Rattle.session_inference.specs.Contexts.{CanInferIn, IsAskedFurtherIn, IsOverTerms}
 
 -- ---- a context that is as another one
 module _ (i j : Infer) (same : IsAsBefore i j) where
@@ -52,6 +52,9 @@ module _ (i j : Infer) (same : IsAsBefore i j) where
         goals-same (λ (o : Obligation). o.standing ≡ Done → IsProvedIn solver_by_view c j.table o.goal)
         (subst (λ (t : Table). All (λ (o : Obligation). o.standing ≡ Done → IsProvedIn solver_by_view c t o.goal) i.goals.obligations.items) (sym same.table) f.done);
   }
+
+  pub still-as : (s t : Subject) → IsAskedFurtherIn [] s i t i → IsAskedFurtherIn [] s i t j
+  still-as s t f own asked faithful c of = faithful-as own asked c (f own asked faithful c of)
 
   pub can-as : (s : Subject) → CanInferIn s i → CanInferIn s j
   can-as s h = let f = h.faithful in record { over = over-same s.terms h.over; mode = same.mode ∙ h.mode; faithful = (f.0, f.1, λ c of. faithful-as f.0 f.1 c (f.2 c of)) }

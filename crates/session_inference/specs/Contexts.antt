@@ -1,11 +1,11 @@
 -- An inference context over the search of a session: what it needs, and what it is faithful to. A session shows its terms and what it is
 -- about, and what it solves by follows from that.
-use Rattle.std.specs.Prelude.{◌≡◌, ◌⊎◌, ℕ, true, List, [], ◌∷◌, ◌++◌, length, All}
+use Rattle.std.specs.Prelude.{◌≡◌, ◌≤◌, ◌+◌, ◌⊎◌, ℕ, true, List, [], ◌∷◌, ◌++◌, Option, Some, length, All}
 use Rattle.type_terms.specs.Promised.Handles.{ArgHeld, Entry, arg_trees}
 use Rattle.type_terms.specs.Promised.Label.{Sort}
 use Rattle.type_terms.specs.Promised.Proofs.{HasProof}
 use Rattle.type_terms.specs.Promised.Trees.{Trees}
-use Rattle.type_terms.specs.Promised.Worlds.{Reference}
+use Rattle.infer_table.specs.Canonical.{GoalTrees}
 use Rattle.type_terms.specs.declared.Fault.TheVariants.{Full}
 use Rattle.type_terms.specs.declared.kinds.GenericArgKind.{GenericArgKind}
 use Rattle.infer_table.specs.Content.{Ready, content, variables_of}
@@ -29,13 +29,14 @@ use Rattle.fulfillment.specs.declared.obligation.Obligation.{Obligation}
 use Rattle.fulfillment.specs.declared.obligation.ObligationId.{ObligationId}
 use Rattle.fulfillment.specs.declared.obligation.Standing.TheVariants.{Done}
 use Rattle.text_lowering.specs.Promised.SeenWorlds.{plainly_seen_from}
-use Rattle.sessions.specs.Asking.{goal_alone}
 use Rattle.sessions.specs.Promised.Shortages.{IsAtLimit}
 use Rattle.sessions.specs.Promised.Subjects.{Subject, StaysOn}
 use Rattle.sessions.specs.Sessions.{IsSolvingOf}
 use Rattle.inference.specs.Inference.{Demand, OwnVariables, IsFaithfulTo, SolvesDemands}
 use Rattle.inference.specs.Inferring.{GoalIsOver, HasGrownFrom, HasOwnAlone, IsOverVariables, ValuesAreOver, with_own_variable}
 use Rattle.inference.specs.declared.context.Infer.{Infer}
+use Rattle.session_inference.specs.declared.error.InferenceError.{InferenceError}
+use Rattle.session_inference.specs.declared.error.InferenceError.TheVariants as inference
 
 -- ---- terms
 -- The term is the interner's, and each variable in it is one of these.
@@ -117,12 +118,12 @@ pub record LetsRest (s t : Subject) : Type 0 where
   pub can : (i : Infer) → CanInferIn s i → CanInferIn t i
   pub faithful : (i : Infer) → CanInferIn s i → IsAskedFurtherIn [] s i t i
 
--- One obligation was registered, behind the others: to prove this trait reference without where-clauses.
-pub record HasRegistered (es : List Entry) (i j : Infer) (r : Reference) (id : ObligationId) : Type 0 where
+-- One obligation was registered, behind the others: to prove this goal.
+pub record HasRegistered (es : List Entry) (i j : Infer) (g : GoalTrees) (id : ObligationId) : Type 0 where
   pub number : id.index ≡ length i.goals.obligations.items
   pub obligation : Obligation
   pub added : j.goals.obligations.items ≡ i.goals.obligations.items ++ obligation ∷ []
-  pub is : goal_trees es obligation.goal ≡ goal_alone r
+  pub is : goal_trees es obligation.goal ≡ g
 
 -- What each call of a context leaves: the session is on what it was on, and the context has what it had and can be used further.
 pub record LeavesInferring (s : Subject) (i : Infer) (t : Subject) (j : Infer) : Type 0 where
@@ -134,3 +135,11 @@ pub record LeavesInferring (s : Subject) (i : Infer) (t : Subject) (j : Infer) :
 -- An equation fails with `Full` only if the session is at a limit.
 abbrev pub EquationAtLimit : Subject → EqError → Type 0
 EquationAtLimit s error = error ≡ Fault Full → IsAtLimit s
+
+-- A call fails with `Full` only if the session is at a limit.
+abbrev pub FailsAtLimit : Subject → InferenceError → Type 0
+FailsAtLimit s e = e ≡ inference.Fault Full → IsAtLimit s
+
+-- The search has started as many frames as the budget says.
+abbrev pub HasSpent : Option ℕ → Subject → Subject → Type 0
+HasSpent budget s t = (n : ℕ) × (budget ≡ Some n) × (s.frames + n ≤ t.frames)

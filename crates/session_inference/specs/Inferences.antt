@@ -1,13 +1,13 @@
 -- What contracts see of an inference session.
-use Rattle.std.specs.Prelude.{◌≡◌, ◌≤◌, ℕ, false, List, [], ◌∷◌, ◌++◌, Option, Some, None, length, map, slice_get, take, refl}
+use Rattle.std.specs.Prelude.{◌≡◌, ◌≤◌, ℕ, false, List, [], ◌∷◌, ◌++◌, Some, length, map, slice_get, take, refl}
 use Rattle.std.specs.Coded.{Coded, code_by, coded×, coded_list}
-use Rattle.type_terms.specs.Promised.Handles.{Entry, arg_trees}
-use Rattle.type_terms.specs.Promised.Trees.{Trees, none, ◌+++◌}
-use Rattle.type_terms.specs.declared.Fault.TheVariants.{Full}
+use Rattle.type_terms.specs.Promised.Handles.{arg_trees}
+use Rattle.type_terms.specs.Promised.Trees.{Trees}
+use Rattle.type_terms.specs.declared.TraitId.{TraitId}
 use Rattle.type_terms.specs.declared.kinds.GenericArgKind.{GenericArgKind}
 use Rattle.type_terms.specs.contracts.kinds.GenericArgKind as args
+use Rattle.infer_table.specs.Canonical.{GoalTrees}
 use Rattle.infer_table.specs.Content.{variables_of}
-use Rattle.sessions.specs.Promised.Shortages.{IsAtLimit}
 use Rattle.sessions.specs.Promised.Subjects.{Subject, StaysOn}
 use Rattle.sessions.specs.Subjects.{subject_code}
 use Rattle.inference.specs.Inference.{Demand}
@@ -15,41 +15,43 @@ use Rattle.inference.specs.Inferring.{HasGrownFrom, IsSnapshotOf}
 use Rattle.inference.specs.contracts.context.Infer as infers
 use Rattle.inference.specs.declared.context.Infer.{Infer}
 use Rattle.session_inference.specs.Shapes.{takes}
-use Rattle.session_inference.specs.Contexts.{AreTermsOver, CanInferIn, HaveNoSolutionIn, IsAskedFurtherIn}
+use Rattle.session_inference.specs.Assuming.{goal_over, terms_over, trees_of_term}
+use Rattle.session_inference.specs.Contexts.{AreTermsOver, CanInferIn, FailsAtLimit, HaveNoSolutionIn, IsAskedFurtherIn}
+use Rattle.session_inference.specs.contracts.assumption.Assumption as assumptions
+use Rattle.session_inference.specs.declared.assumption.Assumption.{Assumption}
 use Rattle.session_inference.specs.contracts.open_snapshot.OpenSnapshot as snapshots
 use Rattle.session_inference.specs.declared.error.InferenceError.{InferenceError}
-use Rattle.session_inference.specs.declared.error.InferenceError.TheVariants as error
 use Rattle.session_inference.specs.declared.open_snapshot.OpenSnapshot.{OpenSnapshot}
 use Rattle.session_inference.specs.declared.shape.Shape.{Shape}
 use Rattle.session_inference.specs.declared.term_id.TermId.{TermId}
 
--- What its session is about, its context, its terms by their numbers, and its open snapshots, the oldest first.
+-- What its session is about, its context, its terms by their numbers, its open snapshots, the oldest first, and what is assumed.
 pub record Inference : Type 0 where
   pub subject : Subject
   pub context : Infer
   pub terms : List GenericArgKind
   pub snapshots : List OpenSnapshot
+  pub assumptions : List Assumption
 
 abbrev pub inference_code : Coded Inference
 inference_code =
-    code_by (Subject × (Infer × (List GenericArgKind × List OpenSnapshot)))
-    (coded× subject_code (coded× infers.the_row.coded (coded× (coded_list args.the_row.coded) (coded_list snapshots.the_row.coded))))
-    (λ v. (v.subject, (v.context, (v.terms, v.snapshots))))
-    (λ (s, (i, (ts, ms))). record { subject = s; context = i; terms = ts; snapshots = ms })
+    code_by (Subject × (Infer × (List GenericArgKind × (List OpenSnapshot × List Assumption))))
+    (coded× subject_code (coded× infers.the_row.coded (coded× (coded_list args.the_row.coded) (coded× (coded_list snapshots.the_row.coded) (coded_list assumptions.the_row.coded)))))
+    (λ v. (v.subject, (v.context, (v.terms, (v.snapshots, v.assumptions)))))
+    (λ (s, (i, (ts, (ms, qs)))). record { subject = s; context = i; terms = ts; snapshots = ms; assumptions = qs })
     (λ _. refl)
 
 -- ---- terms
-abbrev pub trees_of_term : List Entry → Option GenericArgKind → Trees
-trees_of_term es None = none
-trees_of_term es (Some a) = arg_trees es a
-
 -- The term with this number, and the terms with these numbers, one after the other.
 abbrev pub term_numbered : Inference → TermId → Trees
 term_numbered v id = trees_of_term v.subject.terms (slice_get v.terms id.index)
 
 abbrev pub terms_numbered : Inference → List TermId → Trees
-terms_numbered v [] = none
-terms_numbered v (id ∷ ids) = term_numbered v id +++ terms_numbered v ids
+terms_numbered v ids = terms_over v.subject.terms v.terms ids
+
+-- The goal that the terms with these numbers implement this trait, under what is assumed with all its supertraits.
+abbrev pub goal_numbered : Inference → ℕ → List TermId → GoalTrees
+goal_numbered v t ids = goal_over v.subject v.terms v.assumptions t ids
 
 -- There is no term with this number.
 abbrev pub HasNoTerm : Inference → TermId → Type 0
@@ -67,6 +69,13 @@ pub record TakesOthers (v : Inference) (h : Shape) (ids : List TermId) : Type 0 
   pub parts : List GenericArgKind
   pub there : map (λ (id : TermId). slice_get v.terms id.index) ids ≡ map Some parts
   pub others : takes h parts ≡ false
+
+-- That the terms with these numbers implement this trait was assumed, behind the rest.
+pub record HasAssumed (v w : Inference) (t : TraitId) (ids : List TermId) : Type 0 where
+  pub assumption : Assumption
+  pub added : w.assumptions ≡ v.assumptions ++ assumption ∷ []
+  pub trait : assumption.trait_id ≡ t
+  pub args : assumption.args.items ≡ ids
 
 -- ---- snapshots
 -- The snapshot is one of this context, made when so many of the terms had numbers.
@@ -94,11 +103,12 @@ pub record IsInferring (s : Subject) (i : Infer) (ts : List GenericArgKind) (ms 
   pub snapshots : AreTaken s ts ms i
 
 -- ---- calls
--- The call leaves the session on what it is about, adds to the context alone, and leaves all snapshots open.
+-- The call leaves the session on what it is about, adds to the context alone, and leaves all snapshots open and all assumptions.
 pub record InfersOn (v w : Inference) : Type 0 where
   pub stays : StaysOn v.subject w.subject
   pub grows : HasGrownFrom v.context w.context
   pub snapshots : w.snapshots ≡ v.snapshots
+  pub assumptions : w.assumptions ≡ v.assumptions
 
 -- What the first was asked and these demands the second is faithful to.
 abbrev pub AsksFurther : List Demand → Inference → Inference → Type 0
@@ -110,4 +120,4 @@ HasNoSolutionWith further v = HaveNoSolutionIn further v.subject v.context
 
 -- The error is `Full` only if the session is at a limit.
 abbrev pub ErrorAtLimit : Inference → InferenceError → Type 0
-ErrorAtLimit v e = e ≡ error.Fault Full → IsAtLimit v.subject
+ErrorAtLimit v e = FailsAtLimit v.subject e

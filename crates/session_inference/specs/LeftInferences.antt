@@ -11,7 +11,13 @@ subject_of d l = subject_after d l.limits.depth l.limits.handles l.session
 
 -- The inference session that goes on with it.
 abbrev pub inference_after : Declarations → LeftInference → Inference
-inference_after d l = record { subject = subject_of d l; context = l.infer; terms = l.terms.items; snapshots = l.snapshots.items }
+inference_after d l = record {
+  subject = subject_of d l;
+  context = l.infer;
+  terms = l.terms.items;
+  snapshots = l.snapshots.items;
+  assumptions = l.assumptions.items;
+}
 
 -- A session on these declarations left it, and its context can be used in the next one.
 pub record IsLeftInference (d : Declarations) (l : LeftInference) : Type 0 where

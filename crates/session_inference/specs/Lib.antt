@@ -1,3 +1,4 @@
+pub mod Assuming
 pub mod Contexts
 pub mod Inferences
 pub mod LeftInferences

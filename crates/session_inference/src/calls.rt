@@ -2,36 +2,36 @@
 //!
 //! A call that evaluates no goal says nothing of the search's graph. So the session's own graph, which counts its frames, is set aside for it.
 
-ghost use Rattle.std.specs.Prelude.{◌≡◌, ◌∷◌, [], true, false, All, Ok, Err, IfOk, IfErr, OnOk, OnErr, length};
+ghost use Rattle.std.specs.Prelude.{◌≡◌, ◌+◌, ◌∷◌, ℕ, [], true, false, All, None, Some, Ok, Err, IfOk, IfErr, OnOk, OnErr};
 ghost use Rattle.type_terms.specs.Promised.Handles.{ArgsHeld, arg_trees};
 ghost use Rattle.type_terms.specs.Promised.Label.{of_type, of_const, infer};
 ghost use Rattle.type_terms.specs.Promised.Trees.{leaf};
-ghost use Rattle.type_terms.specs.Promised.Worlds.{Reference};
-ghost use Rattle.type_terms.specs.Kinds.{args_trees};
 ghost use Rattle.infer_table.specs.Content.{content, variables_of};
 ghost use Rattle.infer_table.specs.Goals.{GoalHeld, goal_trees};
 ghost use Rattle.infer_table.specs.Solutions.{resolved};
 ghost use Rattle.fulfillment.specs.Obligations.{IsRegistered};
 ghost use Rattle.fulfillment.specs.declared.obligation.Obligation.{Obligation};
 ghost use Rattle.fulfillment.specs.declared.obligation.ObligationId.{ObligationId};
-ghost use Rattle.sessions.specs.Asking.{goal_alone};
 ghost use Rattle.sessions.specs.Promised.Shortages.{SessionFullAtLimit};
 ghost use Rattle.sessions.specs.Promised.Subjects.{StaysOn};
 ghost use Rattle.inference.specs.Inference.{equal, proved};
 ghost use Rattle.inference.specs.Inferring.{GoalIsOver, HasSolution, IsAsBefore, no_variables};
-ghost use Rattle.session_inference.specs.Contexts.{AreTermsOver, CanInferIn, DoneHaveProofs, EquationAtLimit, HasOneMoreIn, HasRegistered, HaveNoSolutionIn, IsAskedFurtherIn, IsFaithfulIn, IsTermOver, LeavesInferring, LetsRest, ShowsSolutionsIn, SomeIsUnsettledIn};
+ghost use Rattle.session_inference.specs.Assuming.{LacksTerm, goal_over};
+ghost use Rattle.session_inference.specs.Contexts.{AreTermsOver, CanInferIn, DoneHaveProofs, EquationAtLimit, FailsAtLimit, HasOneMoreIn, HasRegistered, HasSpent, HaveNoSolutionIn, IsAskedFurtherIn, IsFaithfulIn, IsTermOver, LeavesInferring, LetsRest, ShowsSolutionsIn, SomeIsUnsettledIn};
 
-use crate::making::{args_in, const_made, type_made};
+use crate::assuming::{Stated, goal_in};
+use crate::error::InferenceError;
+use crate::making::{const_made, type_made};
+use crate::term_id::TermId;
 use fulfillment::{ObligationId, Selected, Standing};
 use goal_evaluator::TypingMode;
 use infer_table::certainty::EqError;
 use infer_table::goal::Goal;
 use inference::Infer;
 use search_graph::SearchGraph;
-use sessions::{Session, goal_under};
+use sessions::Session;
 use std::alloc::AllocError;
 use std::mem;
-use term_folds::predicate::TraitRef;
 use type_terms::kinds::GenericArgKind;
 use type_terms::{Fault, TraitId};
 
@@ -150,72 +150,87 @@ pub(crate) fn register_goal(
     ensures registered { IfOk result (λ id.
         IsRegistered context.old.goals.obligations.items context.old.goals.limit goal id context.new.goals.obligations.items) }
     ensures faithful { OnOk result (IsAskedFurtherIn (proved (goal_trees session.now.terms goal) ∷ []) session.now context.old session.now context.new) }
+    ensures still { OnErr result (IsAskedFurtherIn [] session.now context.old session.now context.new) }
     ensures table { context.new.table ≡ context.old.table }
 {
     context.register(&session.search, goal)
 }
 
-/// The goal to prove that these terms implement this trait, without where-clauses.
+/// The goal to prove that these terms implement this trait, under what is assumed.
 fn trait_goal(
     session: &mut Session<'_>,
+    stated: Stated<'_>,
     trait_id: TraitId,
-    args: Vec<GenericArgKind>,
-) -> Result<Goal, Fault>
-    requires { ArgsHeld session.old.terms args.items }
+    ids: &[TermId],
+) -> Result<Goal, InferenceError>
+    requires { ArgsHeld session.old.terms stated.terms.now }
     ensures stays { StaysOn session.old session.new }
     ensures rests { LetsRest session.old session.new }
     ensures held { IfOk result (GoalHeld session.new.terms) }
     ensures is { IfOk result (λ goal. goal_trees session.new.terms goal
-        ≡ goal_alone (record { trait = trait_id.index; args = args_trees session.old.terms args.items })) }
-    ensures full { IfErr result (SessionFullAtLimit session.new) }
+        ≡ goal_over session.old stated.entry.terms.now stated.entry.assumptions.now trait_id.index ids.now) }
+    ensures over { (n : _) → AreTermsOver session.old.terms n stated.entry.terms.now
+        → GoalIsOver n (goal_over session.old stated.entry.terms.now stated.entry.assumptions.now trait_id.index ids.now) }
+    ensures none { result ≡ Err InferenceError.NoSuchTerm → LacksTerm stated.entry.terms.now stated.entry.assumptions.now ids.now }
+    ensures full { IfErr result (FailsAtLimit session.new) }
 {
-    let alloc = session.search.cx.alloc;
-    let args = args_in(&mut session.search.cx, args)?;
-    let asked = TraitRef {
-        def_id: trait_id,
-        args,
-    };
-    let goal = goal_under(alloc, &[], asked)?;
-    Ok(goal)
+    goal_in(&mut session.search.cx, stated, trait_id, ids)
 }
 
-/// Registers the goal to prove that these terms implement this trait.
+/// Registers the goal to prove that these terms implement this trait, under what is assumed.
 pub(crate) fn register(
     session: &mut Session<'_>,
     context: &mut Infer,
+    stated: Stated<'_>,
     trait_id: TraitId,
-    args: Vec<GenericArgKind>,
-) -> Result<ObligationId, Fault>
+    ids: &[TermId],
+) -> Result<ObligationId, InferenceError>
     requires can { CanInferIn session.old context.old }
-    requires args { AreTermsOver session.old.terms (variables_of context.old.table) args.items }
+    requires terms { AreTermsOver session.old.terms (variables_of context.old.table) stated.terms.now }
     ensures leaves { LeavesInferring session.old context.old session.new context.new }
-    ensures registered { let r : Reference = record { trait = trait_id.index; args = args_trees session.old.terms args.items } in
-        IfOk result (HasRegistered session.new.terms context.old context.new r) }
-    ensures faithful { OnOk result (let r : Reference = record { trait = trait_id.index; args = args_trees session.old.terms args.items } in
-        IsAskedFurtherIn (proved (goal_alone r) ∷ []) session.old context.old session.new context.new) }
+    ensures registered { let g = goal_over session.old stated.entry.terms.now stated.entry.assumptions.now trait_id.index ids.now in
+        IfOk result (HasRegistered session.new.terms context.old context.new g) }
+    ensures faithful { OnOk result (let g = goal_over session.old stated.entry.terms.now stated.entry.assumptions.now trait_id.index ids.now in
+        IsAskedFurtherIn (proved g ∷ []) session.old context.old session.new context.new) }
+    ensures still { OnErr result (IsAskedFurtherIn [] session.old context.old session.new context.new) }
+    ensures none { result ≡ Err InferenceError.NoSuchTerm → LacksTerm stated.entry.terms.now stated.entry.assumptions.now ids.now }
     ensures table { context.new.table ≡ context.old.table }
-    ensures full { IfErr result (SessionFullAtLimit session.new) }
+    ensures full { IfErr result (FailsAtLimit session.new) }
 {
-    let goal = trait_goal(session, trait_id, args)?;
+    let goal = trait_goal(session, stated, trait_id, ids)?;
     let id = register_goal(session, context, goal)?;
     Ok(id)
 }
 
-/// [`Infer::select_where_possible`] in a session.
+/// How many frames there are behind so many more. `None` if that bounds nothing.
+fn frames_behind(frames: u64, budget: Option<u64>) -> Option<u64>
+    ensures { (end : ℕ) → result ≡ Some end → (n : ℕ) × (budget ≡ Some n) × (end ≡ frames + n) }
+{
+    match budget {
+        Some(count) => frames.checked_add(count),
+        None => None,
+    }
+}
+
+/// [`Infer::select_where_possible`] in a session, within so many further frames.
 pub(crate) fn select_where_possible(
     session: &mut Session<'_>,
     context: &mut Infer,
-) -> Result<Selected, Fault>
+    budget: Option<u64>,
+) -> Result<Option<Selected>, Fault>
     requires { CanInferIn session.old context.old }
     ensures leaves { LeavesInferring session.old context.old session.new context.new }
     ensures faithful { IsAskedFurtherIn [] session.old context.old session.new context.new }
-    ensures all_done { result ≡ Ok Selected.AllDone → All (λ (o : Obligation). o.standing ≡ Standing.Done) context.new.goals.obligations.items }
+    ensures all_done { result ≡ Ok (Some Selected.AllDone)
+        → All (λ (o : Obligation). o.standing ≡ Standing.Done) context.new.goals.obligations.items }
     ensures done { DoneHaveProofs session.new context.new }
-    ensures unsettled { result ≡ Ok Selected.Pending → SomeIsUnsettledIn session.old context.old }
-    ensures refused { (id : ObligationId) → result ≡ Ok (Selected.Refused id) → HaveNoSolutionIn [] session.old context.old }
+    ensures unsettled { result ≡ Ok (Some Selected.Pending) → SomeIsUnsettledIn session.old context.old }
+    ensures refused { (id : ObligationId) → result ≡ Ok (Some (Selected.Refused id)) → HaveNoSolutionIn [] session.old context.old }
+    ensures stopped { result ≡ Ok None → HasSpent budget session.old session.new }
     ensures full { IfErr result (SessionFullAtLimit session.new) }
 {
-    context.select_where_possible(&mut session.search)
+    let until = frames_behind(session.search.graph.frames(), budget);
+    context.select_where_possible(&mut session.search, until)
 }
 
 /// [`Infer::resolve`] in a session.

@@ -1,14 +1,13 @@
 //! Inference sessions.
 
-ghost use Rattle.std.specs.Prelude.{◌≡◌, ◌∷◌, ◌++◌, ◌⊎◌, [], true, false, All, Any, Some, Ok, Err, IfOk, IfErr, IsOk, IsErr, OnOk, OnErr, length, slice_get, take, map};
-ghost use Rattle.type_terms.specs.Promised.Label.{of_type, of_const, infer, static, value};
+ghost use Rattle.std.specs.Prelude.{◌≡◌, ◌∷◌, ◌++◌, ◌⊎◌, [], true, false, All, Any, None, Some, Ok, Err, IfOk, IfErr, IsOk, IsErr, OnOk, OnErr, length, slice_get, take, map};
+ghost use Rattle.type_terms.specs.Promised.Label.{of_type, of_const, infer, placeholder, static, value};
 ghost use Rattle.type_terms.specs.Promised.Trees.{leaf};
 ghost use Rattle.type_terms.specs.Promised.Worlds.{sees};
 ghost use Rattle.infer_table.specs.Content.{content};
 ghost use Rattle.infer_table.specs.Solutions.{resolved};
 ghost use Rattle.fulfillment.specs.declared.obligation.Obligation.{Obligation};
 ghost use Rattle.fulfillment.specs.declared.obligation.ObligationId.{ObligationId};
-ghost use Rattle.sessions.specs.Asking.{goal_alone};
 ghost use Rattle.sessions.specs.Promised.Shortages.{SessionFullAtLimit};
 ghost use Rattle.sessions.specs.Promised.Subjects.{IsOfText};
 ghost use Rattle.text_language.specs.Output.{type_text};
@@ -17,22 +16,27 @@ ghost use Rattle.inference.specs.Inference.{equal, proved};
 ghost use Rattle.inference.specs.Inferring.{HasGrownFrom, HasSolution, IsAsBefore, IsSnapshotOf, no_variables};
 ghost use Rattle.inference.specs.declared.context.Infer.{Infer};
 ghost use Rattle.session_inference.specs.declared.open_snapshot.OpenSnapshot.{OpenSnapshot};
-ghost use Rattle.session_inference.specs.Contexts.{DoneHaveProofs, HasOneMoreIn, HasRegistered, IsFaithfulIn, ShowsSolutionsIn, SomeIsUnsettledIn};
+ghost use Rattle.session_inference.specs.Assuming.{LacksTerm};
+ghost use Rattle.session_inference.specs.Contexts.{DoneHaveProofs, HasOneMoreIn, HasRegistered, HasSpent, IsFaithfulIn, ShowsSolutionsIn, SomeIsUnsettledIn};
 ghost use Rattle.session_inference.specs.LeftInferences.{IsLeftInference, inference_after};
 ghost use Rattle.session_inference.specs.Primitives.{primitive_trees};
 ghost use Rattle.session_inference.specs.Shapes.{shaped_trees};
 ghost use Rattle.session_inference.specs.TermTexts.{inference_names};
 
+use crate::assuming::Stated;
+use crate::assumption::Assumption;
 use crate::calls;
 use crate::error::InferenceError;
 use crate::left_inference::LeftInference;
-use crate::making::{primitive_type, shaped_type, value_constant};
+use crate::making::{
+    placeholder_constant, placeholder_type, primitive_type, shaped_type, value_constant,
+};
 use crate::open_snapshot::OpenSnapshot;
 use crate::primitive::Primitive;
 use crate::shape::Shape;
 use crate::term_id::TermId;
 use crate::term_text::text_of;
-use crate::terms::{equated, given, numbered, numbered_there, opened, term_at, terms_at};
+use crate::terms::{assumed, equated, given, numbered, numbered_there, opened, term_at, terms_at};
 use fulfillment::{Obligation, ObligationId, Selected, Standing};
 use inference::Infer;
 use sessions::Session;
@@ -58,6 +62,7 @@ pub struct InferenceSession<'w> {
     infer: Infer,
     terms: Vec<GenericArgKind>,
     snapshots: Vec<OpenSnapshot>,
+    assumptions: Vec<Assumption>,
 }
 
 // Hand-written so that the prover sees one drop call: docs/PROVING.md#drop.
@@ -68,6 +73,7 @@ impl Drop for InferenceSession<'_> {
             infer: _,
             terms: _,
             snapshots: _,
+            assumptions: _,
         } = self;
     }
 }
@@ -81,13 +87,19 @@ impl<'w> Model for InferenceSession<'w> {
 
     ghost use Rattle.session_inference.specs.Inferences.{IsInferring};
 
-    ghost view = { λ s. record { subject = s.session; context = s.infer; terms = s.terms.items; snapshots = s.snapshots.items } };
+    ghost view = { λ s. record {
+      subject = s.session;
+      context = s.infer;
+      terms = s.terms.items;
+      snapshots = s.snapshots.items;
+      assumptions = s.assumptions.items;
+    } };
 
     ghost invariant = { λ s. IsInferring s.session s.infer s.terms.items s.snapshots.items };
 }
 
 impl<'w> InferenceSession<'w> {
-    ghost use Rattle.session_inference.specs.Inferences.{AsksFurther, ErrorAtLimit, InfersOn, HasNewTerm, HasNoSolutionWith, HasNoTerm, TakesOthers, term_numbered, terms_numbered};
+    ghost use Rattle.session_inference.specs.Inferences.{AsksFurther, ErrorAtLimit, InfersOn, HasAssumed, HasNewTerm, HasNoSolutionWith, HasNoTerm, TakesOthers, goal_numbered, term_numbered, terms_numbered};
 
     /// An inference session without variables, goals and terms. It takes no memory yet.
     pub fn new(session: Session<'w>) -> Self
@@ -96,6 +108,7 @@ impl<'w> InferenceSession<'w> {
         ensures none { result.context.goals.obligations.items ≡ [] }
         ensures terms { result.terms ≡ [] }
         ensures snapshots { result.snapshots ≡ [] }
+        ensures assumptions { result.assumptions ≡ [] }
     {
         let alloc = session.search.cx.alloc;
         let infer = calls::begin(&session);
@@ -104,6 +117,7 @@ impl<'w> InferenceSession<'w> {
             infer,
             terms: Vec::new(alloc),
             snapshots: Vec::new(alloc),
+            assumptions: Vec::new(alloc),
         }
     }
 
@@ -116,6 +130,7 @@ impl<'w> InferenceSession<'w> {
             infer: _,
             terms: _,
             snapshots: _,
+            assumptions: _,
         } = self;
         session
     }
@@ -130,6 +145,7 @@ impl<'w> InferenceSession<'w> {
             infer,
             terms,
             snapshots,
+            assumptions,
         } = self;
         let limits = session.limits;
         LeftInference {
@@ -138,6 +154,7 @@ impl<'w> InferenceSession<'w> {
             infer,
             terms,
             snapshots,
+            assumptions,
         }
     }
 
@@ -153,12 +170,14 @@ impl<'w> InferenceSession<'w> {
             infer,
             terms,
             snapshots,
+            assumptions,
         } = left;
         InferenceSession {
             session: Session::resumed(workspace, limits, session),
             infer,
             terms,
             snapshots,
+            assumptions,
         }
     }
 
@@ -193,6 +212,7 @@ impl<'w> InferenceSession<'w> {
         ensures is { IfOk result (HasNewTerm self.old self.new (leaf (infer of_type self.old.context.table.ty_vars))) }
         ensures faithful { OnOk result
             (HasOneMoreIn of_type self.old.context.table.ty_vars self.old.subject self.old.context self.new.subject self.new.context) }
+        ensures still { AsksFurther [] self.old self.new }
         ensures terms { OnErr result (self.new.terms ≡ self.old.terms) }
         ensures full { IfErr result (SessionFullAtLimit self.new.subject) }
     {
@@ -208,6 +228,7 @@ impl<'w> InferenceSession<'w> {
         ensures is { IfOk result (HasNewTerm self.old self.new (leaf (infer of_const self.old.context.table.const_vars))) }
         ensures faithful { OnOk result
             (HasOneMoreIn of_const self.old.context.table.const_vars self.old.subject self.old.context self.new.subject self.new.context) }
+        ensures still { AsksFurther [] self.old self.new }
         ensures terms { OnErr result (self.new.terms ≡ self.old.terms) }
         ensures full { IfErr result (SessionFullAtLimit self.new.subject) }
     {
@@ -246,6 +267,7 @@ impl<'w> InferenceSession<'w> {
         ensures subject { self.new.subject ≡ self.old.subject }
         ensures context { self.new.context ≡ self.old.context }
         ensures snapshots { self.new.snapshots ≡ self.old.snapshots }
+        ensures assumptions { self.new.assumptions ≡ self.old.assumptions }
         ensures is { IfOk result (HasNewTerm self.old self.new (leaf static)) }
         ensures terms { OnErr result (self.new.terms ≡ self.old.terms) }
         ensures memory { IfErr result (λ e. e ≡ Fault.Memory) }
@@ -254,6 +276,35 @@ impl<'w> InferenceSession<'w> {
             kind: RegionKind::ReStatic,
         };
         numbered(&mut self.terms, Ok(GenericArgKind::Lifetime(region)))
+    }
+
+    /// The type that is this parameter of the function whose types are inferred, with a number. Nothing is known of it but what is assumed.
+    /// It fails like [`InferenceSession::fresh_ty`].
+    ///
+    /// rustc: `Ty::new_placeholder`, as a query has it for its own parameters.
+    pub fn ty_param(&mut self, number: u32) -> Result<TermId, Fault>
+        ensures goes_on { InfersOn self.old self.new }
+        ensures context { self.new.context ≡ self.old.context }
+        ensures faithful { AsksFurther [] self.old self.new }
+        ensures is { IfOk result (HasNewTerm self.old self.new (leaf (placeholder of_type number))) }
+        ensures terms { OnErr result (self.new.terms ≡ self.old.terms) }
+        ensures full { IfErr result (SessionFullAtLimit self.new.subject) }
+    {
+        let made = placeholder_type(&mut self.session, number);
+        numbered(&mut self.terms, made)
+    }
+
+    /// The constant that is this parameter, with a number, as [`InferenceSession::ty_param`].
+    pub fn const_param(&mut self, number: u32) -> Result<TermId, Fault>
+        ensures goes_on { InfersOn self.old self.new }
+        ensures context { self.new.context ≡ self.old.context }
+        ensures faithful { AsksFurther [] self.old self.new }
+        ensures is { IfOk result (HasNewTerm self.old self.new (leaf (placeholder of_const number))) }
+        ensures terms { OnErr result (self.new.terms ≡ self.old.terms) }
+        ensures full { IfErr result (SessionFullAtLimit self.new.subject) }
+    {
+        let made = placeholder_constant(&mut self.session, number);
+        numbered(&mut self.terms, made)
     }
 
     /// A type of this shape with these parts, with a number. If they are not a struct's arguments in number and kind, nothing decides goals of
@@ -292,6 +343,7 @@ impl<'w> InferenceSession<'w> {
             → HasNoSolutionWith (equal (term_numbered self.old left) (term_numbered self.old right) ∷ []) self.old }
         ensures no_term { result ≡ Err InferenceError.NoSuchTerm → HasNoTerm self.old left ⊎ HasNoTerm self.old right }
         ensures as_it_was { OnErr result (self.new.context ≡ self.old.context) }
+        ensures still { OnErr result (AsksFurther [] self.old self.new) }
         ensures terms { self.new.terms ≡ self.old.terms }
         ensures full { IfErr result (ErrorAtLimit self.new) }
     {
@@ -326,10 +378,33 @@ impl<'w> InferenceSession<'w> {
         given(made)
     }
 
-    /// Registers the goal to prove that these terms implement this trait, the self type first. It is pending, and was not evaluated yet.
+    /// Assumes that these terms implement this trait, the self type first. What is registered from now on has to hold under that and its
+    /// supertraits.
+    ///
+    /// Fails with `NoSuchTerm` if a number has no term, and with a fault if memory is refused. Then it is not assumed.
+    ///
+    /// rustc: one more clause of the `ParamEnv`.
+    pub fn assume(&mut self, trait_id: TraitId, args: &[TermId]) -> Result<(), InferenceError>
+        ensures subject { self.new.subject ≡ self.old.subject }
+        ensures context { self.new.context ≡ self.old.context }
+        ensures terms { self.new.terms ≡ self.old.terms }
+        ensures snapshots { self.new.snapshots ≡ self.old.snapshots }
+        ensures assumed { IfOk result (λ _. HasAssumed self.old self.new trait_id args.now) }
+        ensures refused { OnErr result (self.new.assumptions ≡ self.old.assumptions) }
+        ensures no_term { result ≡ Err InferenceError.NoSuchTerm → Any (HasNoTerm self.old) args.now }
+        ensures memory { (f : Fault) → result ≡ Err (InferenceError.Fault f) → f ≡ Fault.Memory }
+    {
+        let alloc = *self.terms.allocator();
+        let _ = terms_at(alloc, &self.terms, args)?;
+        assumed(alloc, &mut self.assumptions, trait_id, args)
+    }
+
+    /// Registers the goal to prove that these terms implement this trait, the self type first, under what is assumed with all its supertraits.
+    /// It is pending, and was not evaluated yet.
     ///
     /// If the trait is not declared, or the terms are not its arguments in number and kind, nothing decides the goal. Fails with `NoSuchTerm`
-    /// if a number has no term, and with a fault if memory is refused or the session is at a limit. Then nothing is registered.
+    /// if a number has no term, with `WrongParts` if something is assumed that does not have its trait's arguments, and with a fault if memory is
+    /// refused or the session is at a limit. Then nothing is registered.
     ///
     /// rustc: `ObligationCtxt::register_obligation`. rust-analyzer: `InferenceTable::register_obligation`.
     pub fn register(
@@ -338,18 +413,19 @@ impl<'w> InferenceSession<'w> {
         args: &[TermId],
     ) -> Result<ObligationId, InferenceError>
         ensures goes_on { InfersOn self.old self.new }
-        ensures registered { IfOk result (HasRegistered self.new.subject.terms self.old.context self.new.context
-            (record { trait = trait_id.index; args = terms_numbered self.old args.now })) }
-        ensures faithful { OnOk result
-            (AsksFurther (proved (goal_alone (record { trait = trait_id.index; args = terms_numbered self.old args.now })) ∷ []) self.old self.new) }
-        ensures no_term { result ≡ Err InferenceError.NoSuchTerm → Any (HasNoTerm self.old) args.now }
+        ensures registered { IfOk result
+            (HasRegistered self.new.subject.terms self.old.context self.new.context (goal_numbered self.old trait_id.index args.now)) }
+        ensures faithful { OnOk result (AsksFurther (proved (goal_numbered self.old trait_id.index args.now) ∷ []) self.old self.new) }
+        ensures still { OnErr result (AsksFurther [] self.old self.new) }
+        ensures no_term { result ≡ Err InferenceError.NoSuchTerm → LacksTerm self.old.terms self.old.assumptions args.now }
         ensures terms { self.new.terms ≡ self.old.terms }
         ensures full { IfErr result (ErrorAtLimit self.new) }
     {
-        let alloc = *self.terms.allocator();
-        let list = terms_at(alloc, &self.terms, args)?;
-        let made = calls::register(&mut self.session, &mut self.infer, trait_id, list);
-        given(made)
+        let stated = Stated {
+            terms: &self.terms,
+            assumptions: &self.assumptions,
+        };
+        calls::register(&mut self.session, &mut self.infer, stated, trait_id, args)
     }
 
     /// Selects the registered goals. What answers fix stays, whatever their certainty.
@@ -357,22 +433,25 @@ impl<'w> InferenceSession<'w> {
     /// - `AllDone`: each obligation is done: at each solution of the table it has a proof by what the session's crate sees.
     /// - `Refused`: this obligation was refused. Then there is no solution of all that was asked.
     /// - `Pending`: some obligation is pending, and another evaluation fixes nothing new.
+    /// - `None`: it stopped before an evaluation, since it has started as many nested goals as `budget` says. Another call goes on: it looks at
+    ///   the pending obligations again, and those whose results are cached start none. A budget below what the others start gets no further.
     ///
     /// Fails with `Memory` if memory is refused, and with `Full` only if the session is at a limit. What was found stays.
     ///
     /// rustc: `ObligationCtxt::select_where_possible`. rust-analyzer: `InferenceTable::select_obligations_where_possible`.
-    pub fn select_where_possible(&mut self) -> Result<Selected, Fault>
+    pub fn select_where_possible(&mut self, budget: Option<u64>) -> Result<Option<Selected>, Fault>
         ensures goes_on { InfersOn self.old self.new }
         ensures faithful { AsksFurther [] self.old self.new }
         ensures done { DoneHaveProofs self.new.subject self.new.context }
-        ensures all_done { result ≡ Ok Selected.AllDone
+        ensures all_done { result ≡ Ok (Some Selected.AllDone)
             → All (λ (o : Obligation). o.standing ≡ Standing.Done) self.new.context.goals.obligations.items }
-        ensures unsettled { result ≡ Ok Selected.Pending → SomeIsUnsettledIn self.old.subject self.old.context }
-        ensures refused { (id : ObligationId) → result ≡ Ok (Selected.Refused id) → HasNoSolutionWith [] self.old }
+        ensures unsettled { result ≡ Ok (Some Selected.Pending) → SomeIsUnsettledIn self.old.subject self.old.context }
+        ensures refused { (id : ObligationId) → result ≡ Ok (Some (Selected.Refused id)) → HasNoSolutionWith [] self.old }
+        ensures stopped { result ≡ Ok None → HasSpent budget self.old.subject self.new.subject }
         ensures terms { self.new.terms ≡ self.old.terms }
         ensures full { IfErr result (SessionFullAtLimit self.new.subject) }
     {
-        calls::select_where_possible(&mut self.session, &mut self.infer)
+        calls::select_where_possible(&mut self.session, &mut self.infer, budget)
     }
 
     /// The obligations, in the order in which they were registered. One that is pending has its cause, and one that was refused says so.
@@ -427,8 +506,9 @@ impl<'w> InferenceSession<'w> {
         ensures subject { self.new.subject ≡ self.old.subject }
         ensures context { self.new.context ≡ self.old.context }
         ensures terms { self.new.terms ≡ self.old.terms }
+        ensures assumptions { self.new.assumptions ≡ self.old.assumptions }
         ensures taken { IfOk result (λ _. (m : OpenSnapshot) × (self.new.snapshots ≡ self.old.snapshots ++ m ∷ [])
-            × IsSnapshotOf self.old.context m.context × (m.terms ≡ length self.old.terms)) }
+            × IsSnapshotOf self.old.context m.context × (m.terms ≡ length self.old.terms) × (m.assumptions ≡ length self.old.assumptions)) }
         ensures refused { OnErr result (self.new.snapshots ≡ self.old.snapshots) }
     {
         let alloc = *self.terms.allocator();
@@ -436,6 +516,7 @@ impl<'w> InferenceSession<'w> {
         let taken = OpenSnapshot {
             context,
             terms: self.terms.len(),
+            assumptions: self.assumptions.len(),
         };
         opened(&mut self.snapshots, taken)
     }
@@ -447,6 +528,7 @@ impl<'w> InferenceSession<'w> {
         ensures subject { self.new.subject ≡ self.old.subject }
         ensures context { self.new.context ≡ self.old.context }
         ensures terms { self.new.terms ≡ self.old.terms }
+        ensures assumptions { self.new.assumptions ≡ self.old.assumptions }
         ensures ended { result ≡ true → (m : OpenSnapshot) × (self.old.snapshots ≡ self.new.snapshots ++ m ∷ []) }
         ensures none { result ≡ false → (self.old.snapshots ≡ []) × (self.new.snapshots ≡ []) }
     {
@@ -454,22 +536,27 @@ impl<'w> InferenceSession<'w> {
     }
 
     /// Restores the context as it was at the snapshot that was opened last, and ends that: its variables and their values, its obligations and
-    /// how they stand, and its terms. What the search found stays. Whether a snapshot was open.
+    /// how they stand, its terms and its assumptions. What the search found stays. Whether a snapshot was open.
     ///
     /// rustc: `InferCtxt::rollback_to`. rust-analyzer: `InferenceTable::rollback_to`.
     pub fn roll_back(&mut self) -> bool
         ensures subject { self.new.subject ≡ self.old.subject }
         ensures restored { result ≡ true → (m : OpenSnapshot) × (self.old.snapshots ≡ self.new.snapshots ++ m ∷ [])
-            × (self.new.terms ≡ take m.terms self.old.terms)
+            × (self.new.terms ≡ take m.terms self.old.terms) × (self.new.assumptions ≡ take m.assumptions self.old.assumptions)
             × ((before : Infer) → IsSnapshotOf before m.context → HasGrownFrom before self.old.context → IsAsBefore before self.new.context) }
         ensures none { result ≡ false → (self.old.snapshots ≡ []) × (self.new ≡ self.old) }
     {
         match self.snapshots.pop() {
             None => false,
             Some(taken) => {
-                let OpenSnapshot { context, terms } = taken;
+                let OpenSnapshot {
+                    context,
+                    terms,
+                    assumptions,
+                } = taken;
                 self.infer.rollback_to(context);
                 self.terms.truncate(terms);
+                self.assumptions.truncate(assumptions);
                 true
             }
         }

@@ -2,6 +2,7 @@
 
 ghost use Rattle.std.specs.Prelude.{◌≡◌, length};
 
+use crate::assumption::Assumption;
 use crate::open_snapshot::OpenSnapshot;
 use inference::Infer;
 use sessions::{LeftSession, Limits};
@@ -16,6 +17,7 @@ pub struct LeftInference {
     pub(crate) infer: Infer,
     pub(crate) terms: Vec<GenericArgKind>,
     pub(crate) snapshots: Vec<OpenSnapshot>,
+    pub(crate) assumptions: Vec<Assumption>,
 }
 
 impl LeftInference {
@@ -36,6 +38,7 @@ impl LeftInference {
             infer: _,
             terms: _,
             snapshots: _,
+            assumptions: _,
         } = self;
         session
     }

@@ -8,6 +8,8 @@
 //! that is done has a proof at each solution that is left.
 #![tactic(auto)]
 
+mod assuming;
+mod assumption;
 mod calls;
 mod error;
 mod inferring;
@@ -21,6 +23,7 @@ mod term_id;
 mod term_text;
 mod terms;
 
+pub use assumption::Assumption;
 pub use error::InferenceError;
 pub use fulfillment::{Obligation, ObligationId, Selected, Standing};
 pub use inferring::InferenceSession;

@@ -5,7 +5,7 @@ ghost use Rattle.std.specs.Option.{option_map};
 ghost use Rattle.type_terms.specs.Growth.{FullAtLimit};
 ghost use Rattle.type_terms.specs.Kinds.{ConstHeld, KindHeld, args_trees, const_trees, kind_trees};
 ghost use Rattle.type_terms.specs.Promised.Handles.{ArgHeld, ArgsHeld, Is, arg_trees, consts, types};
-ghost use Rattle.type_terms.specs.Promised.Label.{value};
+ghost use Rattle.type_terms.specs.Promised.Label.{of_const, of_type, placeholder, value};
 ghost use Rattle.type_terms.specs.Promised.Trees.{leaf};
 ghost use Rattle.type_terms.specs.Terms.{args_lists};
 ghost use Rattle.solver_graph.specs.Contexts.{Advances, IsReady};
@@ -116,6 +116,32 @@ pub(crate) fn value_constant(
     ensures full { IfErr result (SessionFullAtLimit session.new) }
 {
     const_made(const_in(&mut session.search.cx, ConstKind::Value(number)))
+}
+
+/// The type that is this parameter of the function whose types are inferred.
+pub(crate) fn placeholder_type(
+    session: &mut Session<'_>,
+    number: u32,
+) -> Result<GenericArgKind, Fault>
+    ensures stays { StaysOn session.old session.new }
+    ensures rests { LetsRest session.old session.new }
+    ensures is { IfOk result (λ a. (arg_trees session.new.terms a ≡ leaf (placeholder of_type number)) × ArgHeld session.new.terms a) }
+    ensures full { IfErr result (SessionFullAtLimit session.new) }
+{
+    type_made(ty_in(&mut session.search.cx, TyKind::Placeholder(number)))
+}
+
+/// The constant that is this parameter.
+pub(crate) fn placeholder_constant(
+    session: &mut Session<'_>,
+    number: u32,
+) -> Result<GenericArgKind, Fault>
+    ensures stays { StaysOn session.old session.new }
+    ensures rests { LetsRest session.old session.new }
+    ensures is { IfOk result (λ a. (arg_trees session.new.terms a ≡ leaf (placeholder of_const number)) × ArgHeld session.new.terms a) }
+    ensures full { IfErr result (SessionFullAtLimit session.new) }
+{
+    const_made(const_in(&mut session.search.cx, ConstKind::Placeholder(number)))
 }
 
 /// The type of this shape with these parts, over the interner of a context. `None` if the shape takes others.

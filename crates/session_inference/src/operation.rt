@@ -3,7 +3,7 @@
 ghost use Rattle.std.specs.Prelude.{◌≡◌, ◌≤◌, Err, IfErr, IfOk, OnErr, length};
 ghost use Rattle.sessions.specs.Promised.Subjects.{StaysOn};
 ghost use Rattle.session_inference.specs.Inferences.{ErrorAtLimit};
-ghost use Rattle.session_inference.specs.Operations.{Does, IsNumberOfSelected, IsRefusedEquation, StandsAs, standing_number, yes_number};
+ghost use Rattle.session_inference.specs.Operations.{Does, IsNumberOfSelected, IsRefusedEquation, NamesNothing, StandsAs, StaysAsItWas, standing_number, yes_number};
 
 use crate::error::InferenceError;
 use crate::inferring::InferenceSession;
@@ -22,11 +22,14 @@ pub enum Operation<'a> {
     Primitive(Primitive),
     Constant(u64),
     Lifetime,
+    TyParam(u32),
+    ConstParam(u32),
     Ty(Shape, &'a [TermId]),
     Eq(TermId, TermId),
     CanEq(TermId, TermId),
+    Assume(TraitId, &'a [TermId]),
     Register(TraitId, &'a [TermId]),
-    SelectWherePossible,
+    SelectWherePossible(Option<u64>),
     /// How an obligation stands.
     Standing(ObligationId),
     Resolve(TermId),
@@ -42,14 +45,15 @@ fn number_of(answer: bool) -> usize
     if answer { 1 } else { 0 }
 }
 
-/// 0 where all are done, 1 where some are pending, and 2 more than the number of one that was refused.
-fn selected_number(selected: Selected) -> usize
+/// 0 where all are done, 1 where some are pending, 2 where it stopped, and 3 more than the number of one that was refused.
+fn selected_number(selected: Option<Selected>) -> usize
     ensures { IsNumberOfSelected selected result }
 {
     match selected {
-        Selected::AllDone => 0,
-        Selected::Pending => 1,
-        Selected::Refused(id) => id.index.saturating_add(2),
+        Some(Selected::AllDone) => 0,
+        Some(Selected::Pending) => 1,
+        None => 2,
+        Some(Selected::Refused(id)) => id.index.saturating_add(3),
     }
 }
 
@@ -80,15 +84,15 @@ fn standing_at(obligations: &[Obligation], id: ObligationId) -> Result<usize, In
 impl InferenceSession<'_> {
     /// Makes a call. What it gives is the number of a term or an obligation, that of an answer (1 for yes), or 0.
     ///
-    /// A selection gives 0 where all are done, 1 where some are pending, and 2 more than the number of an obligation that was refused. An
-    /// obligation stands as 0 where it is done, 1 where it is pending and more values may decide it, 2 where it is pending at a limit, and 3
+    /// A selection gives 0 where all are done, 1 where some are pending, 2 where it stopped, and 3 more than the number of an obligation that was
+    /// refused. An obligation stands as 0 where it is done, 1 where it is pending and more values may decide it, 2 where it is pending at a limit, and 3
     /// where it was refused. The errors are those of the call; there is `NoSuchTerm` too where there is no obligation of a number.
     pub fn perform(&mut self, operation: Operation<'_>) -> Result<usize, InferenceError>
         ensures stays { StaysOn self.old.subject self.new.subject }
         ensures does { IfOk result (Does operation.entry self.old self.new) }
+        ensures refused { OnErr result (StaysAsItWas self.old self.new) }
         ensures no_solution { result ≡ Err InferenceError.NoSolution → IsRefusedEquation operation.entry self.old }
-        ensures terms { OnErr result (self.new.terms ≡ self.old.terms) }
-        ensures snapshots { OnErr result (self.new.snapshots ≡ self.old.snapshots) }
+        ensures no_term { result ≡ Err InferenceError.NoSuchTerm → NamesNothing operation.entry self.old }
         ensures full { IfErr result (ErrorAtLimit self.new) }
     {
         match operation {
@@ -112,6 +116,14 @@ impl InferenceSession<'_> {
                 let id = self.lifetime()?;
                 Ok(id.index)
             }
+            Operation::TyParam(number) => {
+                let id = self.ty_param(number)?;
+                Ok(id.index)
+            }
+            Operation::ConstParam(number) => {
+                let id = self.const_param(number)?;
+                Ok(id.index)
+            }
             Operation::Ty(shape, parts) => {
                 let id = self.ty(shape, parts)?;
                 Ok(id.index)
@@ -124,12 +136,16 @@ impl InferenceSession<'_> {
                 let can = self.can_eq(left, right)?;
                 Ok(number_of(can))
             }
+            Operation::Assume(trait_id, args) => {
+                self.assume(trait_id, args)?;
+                Ok(0)
+            }
             Operation::Register(trait_id, args) => {
                 let id = self.register(trait_id, args)?;
                 Ok(id.index)
             }
-            Operation::SelectWherePossible => {
-                let selected = self.select_where_possible()?;
+            Operation::SelectWherePossible(budget) => {
+                let selected = self.select_where_possible(budget)?;
                 Ok(selected_number(selected))
             }
             Operation::Standing(id) => standing_at(self.obligations(), id),

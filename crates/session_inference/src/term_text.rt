@@ -14,7 +14,8 @@ use type_terms::interner::Interner;
 use type_terms::kinds::GenericArgKind;
 use type_terms::{AdtId, TraitId};
 
-/// The names in the terms of an inference session. A type variable is `?0t`, and a constant variable `?0c`. (So rustc prints them.)
+/// The names in the terms of an inference session. A type variable is `?0t`, and a constant variable `?0c`. (So rustc prints them.) Parameters
+/// of the function whose types are inferred are `!0t` and `!0c`.
 #[derive(Clone, Copy)]
 struct InferenceNames<'w> {
     workspace: &'w Workspace,
@@ -32,11 +33,16 @@ impl<'w> InferenceNames<'w> {
     }
 }
 
-/// Appends `?`, a number, and the letter of its kind.
-fn push_variable(kind: TermKind, index: u32, out: &mut Vec<u8>) -> Result<(), AllocError>
-    ensures { OnOk result (out.new.items ≡ out.old.items ++ variable_text (sort_of_kind kind) index) }
+/// Appends a mark, a number, and the letter of its kind.
+fn push_variable(
+    mark: &[u8],
+    kind: TermKind,
+    index: u32,
+    out: &mut Vec<u8>,
+) -> Result<(), AllocError>
+    ensures { OnOk result (out.new.items ≡ out.old.items ++ variable_text mark.now (sort_of_kind kind) index) }
 {
-    out.push(b'?')?;
+    out.extend_from_slice(mark)?;
     let digits = index.to_string(*out.allocator())?;
     out.extend_from_slice(digits.as_bytes())?;
     let letter = match kind {
@@ -71,11 +77,11 @@ impl<'w> PrintNames for InferenceNames<'w> {
 
     fn push_placeholder(
         &self,
-        _kind: TermKind,
-        _index: u32,
-        _out: &mut Vec<u8>,
+        kind: TermKind,
+        index: u32,
+        out: &mut Vec<u8>,
     ) -> Result<(), AllocError> {
-        Ok(())
+        push_variable(b"!", kind, index, out)
     }
 
     fn push_unknown(
@@ -84,7 +90,7 @@ impl<'w> PrintNames for InferenceNames<'w> {
         index: u32,
         out: &mut Vec<u8>,
     ) -> Result<(), AllocError> {
-        push_variable(kind, index, out)
+        push_variable(b"?", kind, index, out)
     }
 }
 

@@ -2,13 +2,14 @@
 
 ghost use Rattle.std.specs.Prelude.{◌≡◌, ◌≤◌, ◌∷◌, ◌++◌, ◌⊎◌, [], Any, None, Some, Ok, Err, IfOk, IfErr, IsOk, IsErr, OnOk, OnErr, length, slice_get, map};
 
+use crate::assumption::Assumption;
 use crate::error::InferenceError;
 use crate::open_snapshot::OpenSnapshot;
 use crate::term_id::TermId;
 use infer_table::certainty::EqError;
 use std::alloc::{AllocError, Global};
-use type_terms::Fault;
 use type_terms::kinds::GenericArgKind;
+use type_terms::{Fault, TraitId};
 
 /// The term with this number.
 pub(crate) fn term_at(
@@ -84,6 +85,23 @@ pub(crate) fn equated(made: Result<(), EqError>) -> Result<(), InferenceError>
         Err(EqError::NoSolution) => Err(InferenceError::NoSolution),
         Err(EqError::Fault(fault)) => Err(InferenceError::Fault(fault)),
     }
+}
+
+/// Adds an assumption behind the others. Fails if memory is refused.
+pub(crate) fn assumed(
+    alloc: Global,
+    assumptions: &mut Vec<Assumption>,
+    trait_id: TraitId,
+    ids: &[TermId],
+) -> Result<(), InferenceError>
+    ensures added { OnOk result ((a : Assumption) × (assumptions.new.items ≡ assumptions.old.items ++ a ∷ [])
+        × (a.trait_id ≡ trait_id) × (a.args.items ≡ ids.now)) }
+    ensures refused { OnErr result (assumptions.new.items ≡ assumptions.old.items) }
+    ensures memory { IfErr result (λ e. e ≡ InferenceError.Fault Fault.Memory) }
+{
+    let args = ids.to_vec(alloc)?;
+    assumptions.push(Assumption { trait_id, args })?;
+    Ok(())
 }
 
 /// Adds a snapshot behind the others. Fails if memory is refused.

@@ -21,22 +21,22 @@ invariant_of-self c =
 pub returns-clause-goes_on : goal.returns-clause-goes_on
 returns-clause-goes_on c =
     let i = c.self.inside in
-    let new : Inference = record { subject = c.value_constant-made.new.session; context = i.infer; terms = c.numbered.new.terms.items; snapshots = i.snapshots.items } in
-    subst (λ (v : Inference). InfersOn v new) c.self.view_is (record { stays = c.value_constant-made.ensures.stays; grows = itself i.infer; snapshots = refl })
+    let new : Inference = record { subject = c.value_constant-made.new.session; context = i.infer; terms = c.numbered.new.terms.items; snapshots = i.snapshots.items; assumptions = i.assumptions.items } in
+    subst (λ (v : Inference). InfersOn v new) c.self.view_is (record { stays = c.value_constant-made.ensures.stays; grows = itself i.infer; snapshots = refl; assumptions = refl })
 
 pub returns-clause-faithful : goal.returns-clause-faithful
 returns-clause-faithful c =
     let i = c.self.inside in
-    let new : Inference = record { subject = c.value_constant-made.new.session; context = i.infer; terms = c.numbered.new.terms.items; snapshots = i.snapshots.items } in
+    let new : Inference = record { subject = c.value_constant-made.new.session; context = i.infer; terms = c.numbered.new.terms.items; snapshots = i.snapshots.items; assumptions = i.assumptions.items } in
     subst (λ (v : Inference). AsksFurther [] v new) c.self.view_is (c.value_constant-made.ensures.rests.faithful i.infer c.self.invariant.can)
 
 pub returns-clause-is : goal.returns-clause-is
 returns-clause-is c =
     let i = c.self.inside in
     let call = c.value_constant-made in
-    let new : Inference = record { subject = c.value_constant-made.new.session; context = i.infer; terms = c.numbered.new.terms.items; snapshots = i.snapshots.items } in
+    let new : Inference = record { subject = c.value_constant-made.new.session; context = i.infer; terms = c.numbered.new.terms.items; snapshots = i.snapshots.items; assumptions = i.assumptions.items } in
     subst (λ (v : Inference). IfOk c.numbered.result (HasNewTerm v new (leaf (value c.args.number)))) c.self.view_is
-    (new-term i.session i.infer i.terms.items i.snapshots.items new (leaf (value c.args.number)) call.result c.numbered.result c.numbered.ensures.number c.numbered.ensures.added (trees-made call.new.session.terms (leaf (value c.args.number)) call.result call.ensures.is))
+    (new-term i.session i.infer i.terms.items i.snapshots.items i.assumptions.items new (leaf (value c.args.number)) call.result c.numbered.result c.numbered.ensures.number c.numbered.ensures.added (trees-made call.new.session.terms (leaf (value c.args.number)) call.result call.ensures.is))
 
 pub returns-clause-terms : goal.returns-clause-terms
 returns-clause-terms c = subst (λ (v : Inference). OnErr c.numbered.result (c.numbered.new.terms.items ≡ v.terms)) c.self.view_is c.numbered.ensures.refused

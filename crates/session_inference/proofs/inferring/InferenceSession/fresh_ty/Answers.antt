@@ -1,10 +1,10 @@
-use Rattle.std.proofs.Common.{◌≡◌, refl, subst}
+use Rattle.std.proofs.Common.{◌≡◌, [], refl, subst}
 use Rattle.std.specs.Prelude.{IfOk, OnErr, OnOk}
 use Rattle.type_terms.specs.Promised.Label.{of_type, infer}
 use Rattle.type_terms.specs.Promised.Trees.{leaf}
 use Rattle.session_inference.specs.Contexts.{HasOneMoreIn}
-use Rattle.session_inference.specs.Inferences.{InfersOn, HasNewTerm, Inference}
-use Rattle.session_inference.proofs.Inferences.{inferring-numbered, new-term, number-full, on-numbered}
+use Rattle.session_inference.specs.Inferences.{AsksFurther, InfersOn, HasNewTerm, Inference}
+use Rattle.session_inference.proofs.Inferences.{inferring-numbered, new-term, number-full, on-numbered, still-with}
 use Rattle.session_inference.proofs.inferring.InferenceSession.fresh_ty.Goals as goal
 
 pub fresh_ty-made-requires : goal.fresh_ty-made-requires
@@ -21,16 +21,16 @@ pub returns-clause-goes_on : goal.returns-clause-goes_on
 returns-clause-goes_on c =
     let i = c.self.inside in
     let call = c.fresh_ty-made in
-    let new : Inference = record { subject = c.fresh_ty-made.new.session; context = c.fresh_ty-made.new.context; terms = c.numbered.new.terms.items; snapshots = i.snapshots.items } in
-    subst (λ (v : Inference). InfersOn v new) c.self.view_is (record { stays = call.ensures.leaves.stays; grows = call.ensures.leaves.grows; snapshots = refl })
+    let new : Inference = record { subject = c.fresh_ty-made.new.session; context = c.fresh_ty-made.new.context; terms = c.numbered.new.terms.items; snapshots = i.snapshots.items; assumptions = i.assumptions.items } in
+    subst (λ (v : Inference). InfersOn v new) c.self.view_is (record { stays = call.ensures.leaves.stays; grows = call.ensures.leaves.grows; snapshots = refl; assumptions = refl })
 
 pub returns-clause-is : goal.returns-clause-is
 returns-clause-is c =
     let i = c.self.inside in
     let call = c.fresh_ty-made in
-    let new : Inference = record { subject = c.fresh_ty-made.new.session; context = c.fresh_ty-made.new.context; terms = c.numbered.new.terms.items; snapshots = i.snapshots.items } in
+    let new : Inference = record { subject = c.fresh_ty-made.new.session; context = c.fresh_ty-made.new.context; terms = c.numbered.new.terms.items; snapshots = i.snapshots.items; assumptions = i.assumptions.items } in
     subst (λ (v : Inference). IfOk c.numbered.result (HasNewTerm v new (leaf (infer of_type v.context.table.ty_vars)))) c.self.view_is
-    (new-term i.session i.infer i.terms.items i.snapshots.items new (leaf (infer of_type i.infer.table.ty_vars)) call.result c.numbered.result c.numbered.ensures.number c.numbered.ensures.added call.ensures.is)
+    (new-term i.session i.infer i.terms.items i.snapshots.items i.assumptions.items new (leaf (infer of_type i.infer.table.ty_vars)) call.result c.numbered.result c.numbered.ensures.number c.numbered.ensures.added call.ensures.is)
 
 pub returns-clause-faithful : goal.returns-clause-faithful
 returns-clause-faithful c =
@@ -44,3 +44,11 @@ returns-clause-terms c = subst (λ (v : Inference). OnErr c.numbered.result (c.n
 
 pub returns-clause-full : goal.returns-clause-full
 returns-clause-full c = number-full c.fresh_ty-made.new.session c.fresh_ty-made.result c.numbered.result c.numbered.ensures.fault c.fresh_ty-made.ensures.full
+
+pub returns-clause-still : goal.returns-clause-still
+returns-clause-still c =
+    let i = c.self.inside in
+    let call = c.fresh_ty-made in
+    let new : Inference = record { subject = call.new.session; context = call.new.context; terms = c.numbered.new.terms.items; snapshots = i.snapshots.items; assumptions = i.assumptions.items } in
+    subst (λ (v : Inference). AsksFurther [] v new) c.self.view_is
+    (still-with call.result of_type i.infer.table.ty_vars i.session call.new.session i.infer call.new.context c.self.invariant.can call.ensures.leaves.rests call.ensures.faithful call.ensures.as_it_was)

@@ -23,6 +23,6 @@ returns-in-Some-clause-restored c =
     let ms = c.pop.new.self.items in
     let popped : i.snapshots.items ≡ ms ++ m ∷ [] = c.pop.ensures.items ∙ ap (λ o. ms ++ option_to_list o) c.in-Some.is in
     subst
-    (λ (v : Inference). true ≡ true → (o : OpenSnapshot) × (v.snapshots ≡ ms ++ o ∷ []) × (c.truncate.new.self.items ≡ take o.terms v.terms)
+    (λ (v : Inference). true ≡ true → (o : OpenSnapshot) × (v.snapshots ≡ ms ++ o ∷ []) × (c.truncate.new.self.items ≡ take o.terms v.terms) × (c.truncate-in-Some.new.self.items ≡ take o.assumptions v.assumptions)
     × ((before : Infer) → IsSnapshotOf before o.context → HasGrownFrom before v.context → IsAsBefore before c.rollback_to.new.self))
-    c.self.view_is (λ e. (m, popped, c.truncate.ensures.items, c.rollback_to.ensures))
+    c.self.view_is (λ e. (m, popped, c.truncate.ensures.items, c.truncate-in-Some.ensures.items, c.rollback_to.ensures))

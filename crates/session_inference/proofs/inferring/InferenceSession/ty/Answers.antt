@@ -35,13 +35,13 @@ invariant_of-self c =
 pub returns-clause-goes_on : goal.returns-clause-goes_on
 returns-clause-goes_on c =
     let i = c.self.inside in
-    let new : Inference = record { subject = c.shaped_type-made.new.session; context = i.infer; terms = c.numbered_there.new.terms.items; snapshots = i.snapshots.items } in
-    subst (λ (v : Inference). InfersOn v new) c.self.view_is (record { stays = c.shaped_type-made.ensures.stays; grows = itself i.infer; snapshots = refl })
+    let new : Inference = record { subject = c.shaped_type-made.new.session; context = i.infer; terms = c.numbered_there.new.terms.items; snapshots = i.snapshots.items; assumptions = i.assumptions.items } in
+    subst (λ (v : Inference). InfersOn v new) c.self.view_is (record { stays = c.shaped_type-made.ensures.stays; grows = itself i.infer; snapshots = refl; assumptions = refl })
 
 pub returns-clause-faithful : goal.returns-clause-faithful
 returns-clause-faithful c =
     let i = c.self.inside in
-    let new : Inference = record { subject = c.shaped_type-made.new.session; context = i.infer; terms = c.numbered_there.new.terms.items; snapshots = i.snapshots.items } in
+    let new : Inference = record { subject = c.shaped_type-made.new.session; context = i.infer; terms = c.numbered_there.new.terms.items; snapshots = i.snapshots.items; assumptions = i.assumptions.items } in
     subst (λ (v : Inference). AsksFurther [] v new) c.self.view_is (c.shaped_type-made.ensures.rests.faithful i.infer c.self.invariant.can)
 
 pub returns-clause-is : goal.returns-clause-is
@@ -50,12 +50,12 @@ returns-clause-is c =
     let call = c.shaped_type-made in
     let h = c.args.shape in
     let xs = c.in_ok-list.list.items in
-    let new : Inference = record { subject = call.new.session; context = i.infer; terms = c.numbered_there.new.terms.items; snapshots = i.snapshots.items } in
-    let old : Inference = record { subject = i.session; context = i.infer; terms = i.terms.items; snapshots = i.snapshots.items } in
+    let new : Inference = record { subject = call.new.session; context = i.infer; terms = c.numbered_there.new.terms.items; snapshots = i.snapshots.items; assumptions = i.assumptions.items } in
+    let old : Inference = record { subject = i.session; context = i.infer; terms = i.terms.items; snapshots = i.snapshots.items; assumptions = i.assumptions.items } in
     let there = subst (λ ts. map (λ (id : TermId). slice_get ts id.index) c.args.parts.now ≡ map Some xs) c.deref.ensures.value c.in_ok-list.ensures.there in
     subst (λ (v : Inference). IfOk c.numbered_there.result (HasNewTerm v new (shaped_trees h (terms_numbered v c.args.parts.now)))) c.self.view_is
     (subst (λ t. IfOk c.numbered_there.result (HasNewTerm old new (shaped_trees h t))) (sym (terms-are old c.args.parts.now xs there))
-    (new-term-there i.session i.infer i.terms.items i.snapshots.items new (shaped_trees h (args_trees i.session.terms xs)) call.result c.numbered_there.result c.numbered_there.ensures.number
+    (new-term-there i.session i.infer i.terms.items i.snapshots.items i.assumptions.items new (shaped_trees h (args_trees i.session.terms xs)) call.result c.numbered_there.result c.numbered_there.ensures.number
     c.numbered_there.ensures.added (trees-there call.new.session.terms (shaped_trees h (args_trees i.session.terms xs)) call.result call.ensures.is)))
 
 pub returns-clause-no_term : goal.returns-clause-no_term
