@@ -1,6 +1,6 @@
 -- Calls of inference by numbers and names, and the operations that they ask for.
-use Rattle.std.specs.Prelude.{◌≡◌, ℕ, Bool, List, [], ◌∷◌, map, Some}
-use Rattle.session_inference.specs.Operations.{Does, IsRefusedEquation}
+use Rattle.std.specs.Prelude.{◌≡◌, ℕ, zero, suc, Bool, List, [], ◌∷◌, map, Option, Some, None}
+use Rattle.session_inference.specs.Operations.{Does, IsRefusedEquation, NamesNothing}
 use Rattle.session_inference.specs.Inferences.{Inference}
 use Rattle.session_inference.specs.Primitives.{primitive_trees}
 use Rattle.session_inference.specs.declared.operation.Operation.{Operation}
@@ -34,15 +34,18 @@ operation_number (call.Primitive p) = 3
 operation_number (call.Ty h parts) = shape_number h
 operation_number (call.Constant n) = 4
 operation_number call.Lifetime = 5
+operation_number (call.TyParam k) = 14
+operation_number (call.ConstParam k) = 15
 operation_number (call.Eq l r) = 20
 operation_number (call.CanEq l r) = 21
 operation_number (call.Register t args) = 22
-operation_number call.SelectWherePossible = 23
+operation_number (call.SelectWherePossible budget) = 23
 operation_number (call.Standing id) = 24
 operation_number (call.Resolve t) = 25
 operation_number call.StartSnapshot = 26
 operation_number call.Commit = 27
 operation_number call.RollBack = 28
+operation_number (call.Assume t args) = 29
 
 -- ---- what an operation is about
 -- The text of the type is this name.
@@ -62,22 +65,25 @@ IsNamedType d name ids (call.Primitive p) = HasText name p
 IsNamedType d name ids (call.Ty (shape.Adt s) parts) = IsStruct d name s.index × (parts.now ≡ ids)
 IsNamedType d name ids _ = ⊥
 
--- It registers the goal of the trait of this name, for these terms.
-abbrev pub IsNamedGoal : Declarations → List ℕ → List TermId → Operation → Type 0
-IsNamedGoal d name ids (call.Register t args) = IsTrait d name t.index × (args.now ≡ ids)
-IsNamedGoal d name ids _ = ⊥
+-- A selection with this number may start so many nested goals. 0 is no bound.
+abbrev pub budget_of : ℕ → Option ℕ
+budget_of zero = None
+budget_of (suc n) = Some (suc n)
 
 -- It takes no name and no terms, and it is about this number.
 abbrev pub IsAboutNumber : ℕ → Operation → Type 0
+IsAboutNumber n call.FreshTy = Unit {0}
+IsAboutNumber n call.FreshConst = Unit {0}
 IsAboutNumber n (call.Constant k) = k ≡ n
+IsAboutNumber n call.Lifetime = Unit {0}
+IsAboutNumber n (call.TyParam k) = k ≡ n
+IsAboutNumber n (call.ConstParam k) = k ≡ n
+IsAboutNumber n (call.SelectWherePossible budget) = budget ≡ budget_of n
 IsAboutNumber n (call.Standing id) = id.index ≡ n
-IsAboutNumber n (call.Primitive p) = ⊥
-IsAboutNumber n (call.Ty h parts) = ⊥
-IsAboutNumber n (call.Eq l r) = ⊥
-IsAboutNumber n (call.CanEq l r) = ⊥
-IsAboutNumber n (call.Register t args) = ⊥
-IsAboutNumber n (call.Resolve t) = ⊥
-IsAboutNumber n _ = Unit {0}
+IsAboutNumber n call.StartSnapshot = Unit {0}
+IsAboutNumber n call.Commit = Unit {0}
+IsAboutNumber n call.RollBack = Unit {0}
+IsAboutNumber n _ = ⊥
 
 -- It is about this name, these terms and this number.
 abbrev IsAbout : Declarations → List ℕ → List TermId → ℕ → Operation → Type 0
@@ -87,6 +93,7 @@ IsAbout d name ids n (call.Ty h parts) = parts.now ≡ ids
 IsAbout d name ids n (call.Eq l r) = l ∷ r ∷ [] ≡ ids
 IsAbout d name ids n (call.CanEq l r) = l ∷ r ∷ [] ≡ ids
 IsAbout d name ids n (call.Register t args) = IsTrait d name t.index × (args.now ≡ ids)
+IsAbout d name ids n (call.Assume t args) = IsTrait d name t.index × (args.now ≡ ids)
 IsAbout d name ids n (call.Resolve t) = t ∷ [] ≡ ids
 IsAbout d name ids n o = IsAboutNumber n o
 
@@ -105,3 +112,7 @@ Performs c v w n = (o : Operation) × IsCallOf c v o × Does o v w n
 -- The equation that it asks for has no solution.
 abbrev pub IsRefusedCall : Call → Inference → Type 0
 IsRefusedCall c v = (o : Operation) × IsCallOf c v o × IsRefusedEquation o v
+
+-- There is no term of a number that the call has, or no obligation.
+abbrev pub LacksAnything : Call → Inference → Type 0
+LacksAnything c v = (o : Operation) × IsCallOf c v o × NamesNothing o v

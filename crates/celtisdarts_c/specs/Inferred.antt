@@ -7,7 +7,8 @@ use Rattle.session_inference.specs.Inferences.{Inference, term_numbered}
 use Rattle.session_inference.specs.LeftInferences.{inference_after}
 use Rattle.session_inference.specs.TermTexts.{inference_names}
 use Rattle.session_inference.specs.declared.left_inference.LeftInference.{LeftInference}
-use Rattle.celtisdarts_c.specs.Calls.{IsRefusedCall, Performs}
+use Rattle.session_inference.specs.Operations.{StaysAsItWas}
+use Rattle.celtisdarts_c.specs.Calls.{IsRefusedCall, LacksAnything, Performs}
 use Rattle.celtisdarts_c.specs.Slots.{SlotState}
 use Rattle.celtisdarts_c.specs.declared.call.Call.{Call}
 
@@ -31,6 +32,14 @@ HasInferred s c t n = (v w : Inference) × (inference_in s ≡ Some v) × (infer
 -- The equation that the call asks for has no solution.
 abbrev pub HasNoSolutionIn : SlotState → Call → Type 0
 HasNoSolutionIn s c = (v : Inference) × (inference_in s ≡ Some v) × IsRefusedCall c v
+
+-- The call lacks a term or an obligation.
+abbrev pub LacksAnythingIn : SlotState → Call → Type 0
+LacksAnythingIn s c = (v : Inference) × (inference_in s ≡ Some v) × LacksAnything c v
+
+-- Inference stays as it was.
+abbrev pub StaysAsItWasIn : SlotState → SlotState → Type 0
+StaysAsItWasIn s t = (v : Inference) → inference_in s ≡ Some v → (w : Inference) × (inference_in t ≡ Some w) × StaysAsItWas v w
 
 -- The text of the term of this number.
 abbrev pub IsTermText : SlotState → ℕ → List ℕ → Type 0

@@ -1,21 +1,22 @@
 //! Calls of inference, by numbers and names.
 
-ghost use Rattle.std.specs.Prelude.{◌≡◌, ◌≢◌, ◌≤◌, Ok, Err, IfOk, IfSome, OnSome, map};
+ghost use Rattle.std.specs.Prelude.{◌≡◌, ◌≢◌, ◌≤◌, Ok, Err, IfOk, IfSome, IsErr, OnErr, OnSome, map};
 ghost use Rattle.coherence.specs.TextLanguage.Output.{Names, type_text};
 ghost use Rattle.sessions.specs.Promised.Subjects.{StaysOn};
 ghost use Rattle.session_inference.specs.Primitives.{primitive_trees};
 ghost use Rattle.session_inference.specs.declared.error.InferenceError.TheVariants as error;
 ghost use Rattle.type_terms.specs.declared.Fault.TheVariants.{Memory};
 ghost use Rattle.celtisdarts_c.specs.declared.call.Refusal.TheVariants as refusal;
-ghost use Rattle.celtisdarts_c.specs.Calls.{HasText, IsAboutNumber, IsNamedGoal, IsNamedType, IsOperationOf, IsRefusedCall, Performs, operation_number, shape_number};
+ghost use Rattle.session_inference.specs.Operations.{StaysAsItWas};
+ghost use Rattle.celtisdarts_c.specs.Calls.{HasText, IsAboutNumber, IsNamedType, IsOperationOf, IsRefusedCall, IsTrait, LacksAnything, Performs, budget_of, operation_number, shape_number};
 
 use session_inference::{
     InferenceError, InferenceSession, ObligationId, Operation, Primitive, Shape, TermId,
 };
 use std::alloc::{AllocError, Global};
 use text_tables::{Known, ParamKind};
-use type_terms::Fault;
 use type_terms::kinds::{GenericArgKind, IntTy, Mutability, UintTy};
+use type_terms::{Fault, TraitId};
 
 /// A call of inference: its operation, and what it is about.
 #[derive(Clone, Copy)]
@@ -159,13 +160,13 @@ fn named_type<'a>(
     }
 }
 
-/// The goal that terms implement a trait, by its name. The first is the self type.
-fn named_goal<'a>(
+/// A trait by its name, which takes these terms. The first is the self type.
+fn named_trait(
     session: &InferenceSession<'_>,
     name: &[u8],
-    ids: &'a [TermId],
-) -> Result<Operation<'a>, Refusal>
-    ensures named { IfOk result (IsNamedGoal session.now.subject.declarations name.now ids.now) }
+    ids: &[TermId],
+) -> Result<TraitId, Refusal>
+    ensures named { IfOk result (λ t. IsTrait session.now.subject.declarations name.now t.index) }
     ensures refused { (e : InferenceError) → result ≡ Err (Refusal.Session e) → ⊥ }
 {
     match session.session().workspace.known(name) {
@@ -179,11 +180,29 @@ fn named_goal<'a>(
         ) if session.sees(owner) => match ids.split_first() {
             Some((own, others))
                 if takes(ParamKind::Type, session.term(*own)) && take(session, params, others) => {
-                Ok(Operation::Register(id, ids))
+                Ok(id)
             }
             _ => Err(Refusal::OtherTerms),
         },
         _ => Err(Refusal::NoName),
+    }
+}
+
+/// How many nested goals a selection may start. 0 is no bound.
+fn budget_of(number: u64) -> Option<u64>
+    ensures { result ≡ budget_of number }
+{
+    if number == 0 { None } else { Some(number) }
+}
+
+/// The number of a parameter.
+fn param_of(number: u64) -> Result<u32, Refusal>
+    ensures is { IfOk result (λ n. n ≡ number) }
+    ensures refused { (e : InferenceError) → result ≡ Err (Refusal.Session e) → ⊥ }
+{
+    match u32::try_from(number) {
+        Ok(number) => Ok(number),
+        Err(_) => Err(Refusal::OtherTerms),
     }
 }
 
@@ -214,7 +233,7 @@ fn without_terms<'a>(call: &Call<'_>) -> Option<Operation<'a>>
         2 => Some(Operation::FreshConst),
         4 => Some(Operation::Constant(call.number)),
         5 => Some(Operation::Lifetime),
-        23 => Some(Operation::SelectWherePossible),
+        23 => Some(Operation::SelectWherePossible(budget_of(call.number))),
         24 => Some(Operation::Standing(ObligationId {
             index: call.number as usize,
         })),
@@ -248,9 +267,12 @@ fn operation_of<'a>(
         (3, _) => named_type(session, call.name, ids),
         (20, [left, right]) => Ok(Operation::Eq(*left, *right)),
         (21, [left, right]) => Ok(Operation::CanEq(*left, *right)),
-        (22, _) => named_goal(session, call.name, ids),
+        (14, []) => Ok(Operation::TyParam(param_of(call.number)?)),
+        (15, []) => Ok(Operation::ConstParam(param_of(call.number)?)),
+        (22, _) => Ok(Operation::Register(named_trait(session, call.name, ids)?, ids)),
+        (29, _) => Ok(Operation::Assume(named_trait(session, call.name, ids)?, ids)),
         (25, [term]) => Ok(Operation::Resolve(*term)),
-        (20 | 21 | 25, _) => Err(Refusal::OtherTerms),
+        (14 | 15 | 20 | 21 | 25, _) => Err(Refusal::OtherTerms),
         _ => Err(Refusal::NoOperation),
     }
 }
@@ -274,7 +296,9 @@ pub fn make(
     call: &Call<'_>,
 ) -> Result<usize, Refusal>
     ensures done { IfOk result (Performs call.now session.old session.new) }
+    ensures refused { OnErr result (StaysAsItWas session.old session.new) }
     ensures no_solution { result ≡ Err (Refusal.Session InferenceError.NoSolution) → IsRefusedCall call.now session.old }
+    ensures no_term { result ≡ Err (Refusal.Session InferenceError.NoSuchTerm) → LacksAnything call.now session.old }
     ensures stays { StaysOn session.old.subject session.new.subject }
 {
     let ids = ids_of(alloc, call.terms)?;
@@ -286,7 +310,9 @@ pub fn make(
 /// The word of a call that was made or refused. What it gives is written.
 pub fn told(outcome: Result<usize, Refusal>, given: &mut u32) -> u32
     ensures given { result ≡ 0 → outcome ≡ Ok given.new }
+    ensures refused { result ≢ 0 → result ≢ 4 → IsErr outcome }
     ensures no_solution { result ≡ 13 → outcome ≡ Err (Refusal.Session InferenceError.NoSolution) }
+    ensures no_term { result ≡ 12 → outcome ≡ Err (Refusal.Session InferenceError.NoSuchTerm) }
     ensures others { (result ≢ 10) × (result ≢ 11) }
 {
     match outcome {

@@ -2,7 +2,7 @@
 
 ghost use Rattle.std.specs.Prelude.{◌≡◌, ◌≢◌, ◌⊎◌, None};
 ghost use Rattle.celtisdarts_c.specs.Asked.{HasNoCrate};
-ghost use Rattle.celtisdarts_c.specs.Inferred.{HasBegunIn, HasInferred, HasNoSolutionIn, IsTermText, inference_in};
+ghost use Rattle.celtisdarts_c.specs.Inferred.{HasBegunIn, HasInferred, HasNoSolutionIn, IsTermText, LacksAnythingIn, StaysAsItWasIn, inference_in};
 ghost use Rattle.celtisdarts_c.specs.Told.{Tells, TellsLength};
 
 use crate::asked::empty;
@@ -54,16 +54,18 @@ pub extern "C" fn celtisdarts_infer_end(alloc: Global, handle: &mut Handle) -> u
 /// | 3 | the type of the name, with the terms as its arguments: a struct that the crate sees, or a type without parts |
 /// | 4, 5 | the constant with the number as its value, the lifetime `'static` |
 /// | 6 to 13 | the tuple, `[T]`, `[T; n]`, `&T`, `&mut T`, `*const T`, `*mut T`, `fn` (its inputs and its output) of the terms |
+/// | 14, 15 | the type, and the constant, that is the parameter with the number of the function whose types are inferred |
 /// | 20 | 0, and makes two terms equal |
 /// | 21 | 1 if two terms can be equal by the values that are known, or 0 if no solution makes them equal |
 /// | 22 | the obligation of the trait of the name for the terms, the self type first. It is not evaluated yet |
-/// | 23 | selects: 0 if all obligations are done, 1 if some are pending, 2 more than the number of one that was refused |
+/// | 23 | selects with that budget of nested goals (0: none): 0 all done, 1 some pending, 2 stopped, 3 more than the number of one refused |
 /// | 24 | how the obligation with the number stands: 0 done, 1 pending, 2 pending at a limit, 3 refused |
 /// | 25 | the term with the values that are known |
 /// | 26 | 0, and opens a snapshot |
 /// | 27, 28 | ends the last snapshot, and restores what was there: 1, or 0 if none was open |
+/// | 29 | 0, and assumes that the trait of the name holds for the terms, for what is registered from now on |
 ///
-/// Returns 0, 3, 4, or 10 to 16. After another word than 0 there are the terms and snapshots that there were.
+/// Returns 0, 3, 4, or 10 to 16. After another word than 0 and 4 the inference is as it was, but that a selection keeps what it found.
 #[unsafe(no_mangle)]
 pub extern "C" fn celtisdarts_infer(
     alloc: Global,
@@ -78,6 +80,9 @@ pub extern "C" fn celtisdarts_infer(
         → HasInferred handle.old.value (record { operation = operation; name = name.entry; terms = terms.entry; number = number }) handle.new.value given.new }
     ensures no_solution { result ≡ 13
         → HasNoSolutionIn handle.old.value (record { operation = operation; name = name.entry; terms = terms.entry; number = number }) }
+    ensures no_term { result ≡ 12
+        → LacksAnythingIn handle.old.value (record { operation = operation; name = name.entry; terms = terms.entry; number = number }) }
+    ensures refused { result ≢ 0 → result ≢ 4 → StaysAsItWasIn handle.old.value handle.new.value }
     ensures no_text { result ≡ 10 → handle.old.value.asker ≡ None }
     ensures no_inference { result ≡ 11 → handle.old.value.left ≡ None }
     ensures asker { handle.new.value.asker ≡ handle.old.value.asker }

@@ -2,7 +2,7 @@
 
 ghost use Rattle.std.specs.Prelude.{◌≡◌, ◌≢◌, ◌⊎◌, None, Some, Ok};
 ghost use Rattle.celtisdarts_c.specs.Asked.{fault_word, TellsNumber, HasNoCrate, IsCrateName, IsCrateLine, IsAnswer, IsUnanswered};
-ghost use Rattle.celtisdarts_c.specs.Inferred.{HasBegunIn, HasInferred, HasNoSolutionIn, IsTermText, inference_in};
+ghost use Rattle.celtisdarts_c.specs.Inferred.{HasBegunIn, HasInferred, HasNoSolutionIn, IsTermText, LacksAnythingIn, StaysAsItWasIn, inference_in};
 ghost use Rattle.celtisdarts_c.specs.Told.{IsAtFront, IsTooShort};
 ghost use Rattle.celtisdarts_c.specs.Told.{Tells, TellsLength};
 
@@ -102,7 +102,9 @@ impl Slot {
     /// Makes a call of the inference. Returns 0, 3, 4, or 10 to 16.
     pub fn infer(&mut self, alloc: Global, call: &Call<'_>, given: &mut u32) -> u32
         ensures done { result ≡ 0 → HasInferred self.old call.now self.new given.new }
+        ensures refused { result ≢ 0 → result ≢ 4 → StaysAsItWasIn self.old self.new }
         ensures no_solution { result ≡ 13 → HasNoSolutionIn self.old call.now }
+        ensures no_term { result ≡ 12 → LacksAnythingIn self.old call.now }
         ensures no_text { result ≡ 10 → self.old.asker ≡ None }
         ensures no_inference { result ≡ 11 → self.old.left ≡ None }
         ensures asker { self.new.asker ≡ self.old.asker }

@@ -16,3 +16,4 @@ pub record HasBegun (depth : ℕ) (d : Declarations) (c : ℕ) (l : LeftInferenc
   pub no_goals : (inference_after d l).context.goals.obligations.items ≡ []
   pub no_terms : (inference_after d l).terms ≡ []
   pub no_snapshots : (inference_after d l).snapshots ≡ []
+  pub no_assumptions : (inference_after d l).assumptions ≡ []

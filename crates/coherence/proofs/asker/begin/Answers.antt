@@ -22,4 +22,5 @@ returns-clause-begun c =
       no_goals = ap (λ (w : Inference). w.context.goals.obligations.items) is ∙ new.none;
       no_terms = ap (λ (w : Inference). w.terms) is ∙ new.terms;
       no_snapshots = ap (λ (w : Inference). w.snapshots) is ∙ new.snapshots;
+      no_assumptions = ap (λ (w : Inference). w.assumptions) is ∙ new.assumptions;
     }
