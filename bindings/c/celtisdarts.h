@@ -27,7 +27,7 @@ extern "C" {
 
 /* The version of the calls below. It rises where a program that was compiled before does not fit any more; so it is in the name of the shared
  * object too. What the library was built with is celtisdarts_abi_version, which says so where it is loaded at run time. */
-#define CELTISDARTS_ABI_VERSION 1
+#define CELTISDARTS_ABI_VERSION 2
 extern const uint32_t celtisdarts_abi_version;
 
 /* The library itself takes no null pointer, which compilers and their checks of memory are told. */
@@ -117,23 +117,32 @@ enum {
     CELTISDARTS_INFER_POINTER = 11,       /* a type T: gives a term *const T */
     CELTISDARTS_INFER_POINTER_MUT = 12,   /* a type T: gives a term *mut T */
     CELTISDARTS_INFER_FUNCTION = 13,      /* the inputs A, B, .. and then the output C: gives a term fn(A, B, ..) -> C */
+    CELTISDARTS_INFER_PARAM = 14,         /* a number below 2^32: gives a term, the type parameter of that number; WRONG_TERMS for another */
+    CELTISDARTS_INFER_CONST_PARAM = 15,   /* the same: gives a term, the constant parameter of that number */
     CELTISDARTS_INFER_EQ = 20,            /* two terms: makes them equal, or ends with CELTISDARTS_NO_SOLUTION */
     CELTISDARTS_INFER_CAN_EQ = 21,        /* two terms: 1 if known values let them be equal, 0 if no solution does; changes nothing */
     CELTISDARTS_INFER_REGISTER = 22,      /* the name of a trait, and its arguments, the self type first: gives an obligation, not evaluated */
-    CELTISDARTS_INFER_SELECT = 23,        /* 0 if all are done, 1 if some are pending, 2 + n if obligation n has no solution */
+    CELTISDARTS_INFER_SELECT = 23,        /* 0 if all are done, 1 if some are pending, 2 if it stopped, 3 + n if obligation n has no solution */
     CELTISDARTS_INFER_STANDING = 24,      /* an obligation as the number: 0 done, 1 pending, 2 pending at a limit, 3 refused */
     CELTISDARTS_INFER_RESOLVE = 25,       /* a term: gives a term in which each variable that has a value is replaced by it */
     CELTISDARTS_INFER_SNAPSHOT = 26,      /* opens a snapshot */
     CELTISDARTS_INFER_COMMIT = 27,        /* 1 if a snapshot was open: the last one ends, and what was done since stays; else 0 */
-    CELTISDARTS_INFER_ROLL_BACK = 28      /* 1 if a snapshot was open: all is as it was there, and later numbers are taken back; else 0 */
+    CELTISDARTS_INFER_ROLL_BACK = 28,     /* 1 if a snapshot was open: all is as it was there, and later numbers are taken back; else 0 */
+    CELTISDARTS_INFER_ASSUME = 29         /* as for REGISTER: what is registered from now on has to hold under that and its supertraits */
 };
+
+/* Nothing is known of a parameter but what is assumed of it: it is that of a generic function in whose body types are inferred. What was
+ * registered under assumptions, or with parameters in it, has a proof under them if it is done; if it is refused, nothing is promised.
+ *
+ * The number of CELTISDARTS_INFER_SELECT is how many nested goals it may start, or 0 for no bound. It stops before an evaluation where it has
+ * started so many, and another call goes on: it looks at the pending obligations again, of which those whose results are kept start none. */
 
 /* Does one operation of the context, with a name, with `count` terms by their numbers, and with a number. */
 CELTISDARTS_NONNULL
 uint32_t celtisdarts_infer(celtisdarts_handle *handle, uint32_t operation, const uint8_t *name, size_t name_length, const uint32_t *terms, size_t count, uint64_t number, uint32_t *given);
 
-/* Writes a term, as a type or a constant of a text; ?0t is a type variable without a value, and ?0c a constant variable. Lifetimes are not
- * written. */
+/* Writes a term, as a type or a constant of a text; ?0t is a type variable without a value, ?0c a constant variable, and !0t and !0c are
+ * parameters. Lifetimes are not written. */
 CELTISDARTS_NONNULL
 uint32_t celtisdarts_infer_text(celtisdarts_handle *handle, uint32_t term, uint8_t *buffer, size_t room, size_t *needed);
 

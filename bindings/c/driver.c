@@ -119,11 +119,12 @@ static void takes_null(celtisdarts_handle *handle) {
 }
 
 /* An operation, with a null where there is no name or no term. */
-static uint32_t infers(celtisdarts_handle *handle, uint32_t operation, const char *name, const uint32_t *terms, size_t count, uint32_t *given) {
+static uint32_t infers(celtisdarts_handle *handle, uint32_t operation, const char *name, const uint32_t *terms, size_t count, uint64_t number,
+                       uint32_t *given) {
     size_t length = name == NULL ? 0 : strlen(name);
     uint8_t *bytes = name == NULL ? NULL : block(name, length);
     uint32_t *taken = count == 0 ? NULL : (uint32_t *)block((const char *)terms, count * sizeof *terms);
-    uint32_t word = celtisdarts_infer(handle, operation, bytes, length, taken, count, 0, given);
+    uint32_t word = celtisdarts_infer(handle, operation, bytes, length, taken, count, number, given);
     free(bytes);
     free(taken);
     return word;
@@ -133,14 +134,21 @@ static uint32_t infers(celtisdarts_handle *handle, uint32_t operation, const cha
 static void gives(const char *what, celtisdarts_handle *handle, uint32_t operation, const char *name, const uint32_t *terms, size_t count,
                   uint32_t wanted) {
     uint32_t given = UINT32_MAX;
-    expect(what, infers(handle, operation, name, terms, count, &given), CELTISDARTS_DONE);
+    expect(what, infers(handle, operation, name, terms, count, 0, &given), CELTISDARTS_DONE);
+    expect("what it gives", given, wanted);
+}
+
+/* The operation, of a number alone, gives this. */
+static void gives_of(const char *what, celtisdarts_handle *handle, uint32_t operation, uint64_t number, uint32_t wanted) {
+    uint32_t given = UINT32_MAX;
+    expect(what, infers(handle, operation, NULL, NULL, 0, number, &given), CELTISDARTS_DONE);
     expect("what it gives", given, wanted);
 }
 
 static void gives_no(const char *what, celtisdarts_handle *handle, uint32_t operation, const char *name, const uint32_t *terms, size_t count,
                      uint32_t wanted) {
     uint32_t given = UINT32_MAX;
-    expect(what, infers(handle, operation, name, terms, count, &given), wanted);
+    expect(what, infers(handle, operation, name, terms, count, 0, &given), wanted);
 }
 
 static void has_no_context(celtisdarts_handle *handle, uint32_t wanted) {
@@ -180,6 +188,46 @@ static void infers_a_type(celtisdarts_handle *handle) {
     refuses("a term that was taken back", (call){TERM, handle, 4, NULL}, CELTISDARTS_NO_TERM, 0);
 }
 
+/* `fn f<T: Copy>(..)`, in whose body `(T, T)` is copied. */
+static void assumes_a_bound(celtisdarts_handle *handle) {
+    static const uint32_t zero = 0, one = 1, two = 2, pair[] = {0, 0};
+    uint32_t given = UINT32_MAX;
+    gives_of("a parameter", handle, CELTISDARTS_INFER_PARAM, UINT32_MAX, 0);
+    gives_of("a constant parameter", handle, CELTISDARTS_INFER_CONST_PARAM, 5, 1);
+    gives("a tuple", handle, CELTISDARTS_INFER_TUPLE, NULL, pair, 2, 2);
+    writes("a parameter", (call){TERM, handle, 0, NULL}, CELTISDARTS_DONE, "!4294967295t");
+    writes("a constant parameter", (call){TERM, handle, 1, NULL}, CELTISDARTS_DONE, "!5c");
+    expect("a parameter of more bits", infers(handle, CELTISDARTS_INFER_PARAM, NULL, NULL, 0, UINT64_C(1) << 32, &given), CELTISDARTS_WRONG_TERMS);
+    expect("a constant parameter of more bits", infers(handle, CELTISDARTS_INFER_CONST_PARAM, NULL, NULL, 0, UINT64_MAX, &given), CELTISDARTS_WRONG_TERMS);
+    gives_no("a parameter of a term", handle, CELTISDARTS_INFER_PARAM, NULL, &zero, 1, CELTISDARTS_WRONG_TERMS);
+    gives("a snapshot", handle, CELTISDARTS_INFER_SNAPSHOT, NULL, NULL, 0, 0);
+    gives("an assumption", handle, CELTISDARTS_INFER_ASSUME, "Copy", &zero, 1, 0);
+    gives_no("an assumption of no trait", handle, CELTISDARTS_INFER_ASSUME, "V", &zero, 1, CELTISDARTS_NO_NAME);
+    gives_no("an assumption of a constant", handle, CELTISDARTS_INFER_ASSUME, "Copy", &one, 1, CELTISDARTS_WRONG_TERMS);
+    gives_no("an assumption of nothing", handle, CELTISDARTS_INFER_ASSUME, "Copy", NULL, 0, CELTISDARTS_WRONG_TERMS);
+    gives("a bound", handle, CELTISDARTS_INFER_REGISTER, "Copy", &two, 1, 0);
+    gives("another bound", handle, CELTISDARTS_INFER_REGISTER, "Clone", &zero, 1, 1);
+    expect("a selection of one goal", infers(handle, CELTISDARTS_INFER_SELECT, NULL, NULL, 0, 1, &given), CELTISDARTS_DONE);
+    expect("it stops, or had found all", given == 2 || given == 0, 1);
+    gives_of("all are done", handle, CELTISDARTS_INFER_SELECT, UINT64_MAX, 0);
+    gives_of("a supertrait is done", handle, CELTISDARTS_INFER_STANDING, 1, 0);
+    gives("it is rolled back", handle, CELTISDARTS_INFER_ROLL_BACK, NULL, NULL, 0, 1);
+    gives("a bound that nothing says", handle, CELTISDARTS_INFER_REGISTER, "Copy", &two, 1, 0);
+    expect("it is selected", infers(handle, CELTISDARTS_INFER_SELECT, NULL, NULL, 0, 0, &given), CELTISDARTS_DONE);
+    expect("it is not done", given != 0, 1);
+}
+
+/* The number of an obligation that has no solution. */
+static void refuses_a_bound(celtisdarts_handle *handle) {
+    static const uint32_t one = 1;
+    gives("a variable", handle, CELTISDARTS_INFER_FRESH_TYPE, NULL, NULL, 0, 0);
+    gives("a type", handle, CELTISDARTS_INFER_TYPE, "str", NULL, 0, 1);
+    gives("a bound", handle, CELTISDARTS_INFER_REGISTER, "Copy", &one, 1, 0);
+    gives_of("it is refused", handle, CELTISDARTS_INFER_SELECT, 1, 3);
+    gives("it is refused again", handle, CELTISDARTS_INFER_SELECT, NULL, NULL, 0, 3);
+    gives("how it stands", handle, CELTISDARTS_INFER_STANDING, NULL, NULL, 0, 3);
+}
+
 static void has_contexts(celtisdarts_handle *handle) {
     has_no_context(handle, CELTISDARTS_NO_CONTEXT);
     expect("a context of no crate", celtisdarts_infer_begin(handle, 3), CELTISDARTS_NO_CRATE);
@@ -187,6 +235,10 @@ static void has_contexts(celtisdarts_handle *handle) {
         expect("a context is begun", celtisdarts_infer_begin(handle, 1), CELTISDARTS_DONE);
         infers_a_type(handle);
         asks(handle);
+        expect("a context is begun", celtisdarts_infer_begin(handle, 1), CELTISDARTS_DONE);
+        assumes_a_bound(handle);
+        expect("a context is begun", celtisdarts_infer_begin(handle, 1), CELTISDARTS_DONE);
+        refuses_a_bound(handle);
     }
     expect("a context is ended", celtisdarts_infer_end(handle), CELTISDARTS_DONE);
     has_no_context(handle, CELTISDARTS_NO_CONTEXT);

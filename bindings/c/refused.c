@@ -74,6 +74,14 @@ static uint32_t registers(void) {
     return word == CELTISDARTS_DONE ? infers(CELTISDARTS_INFER_REGISTER, "Show", terms, 1) : word;
 }
 
+static uint32_t assumes(void) {
+    static const uint32_t terms[] = {2};
+    uint32_t word = registers();
+    if (word == CELTISDARTS_DONE) word = infers(CELTISDARTS_INFER_PARAM, "", NULL, 0);
+    if (word == CELTISDARTS_DONE) word = infers(CELTISDARTS_INFER_ASSUME, "Show", terms, 1);
+    return word == CELTISDARTS_DONE ? infers(CELTISDARTS_INFER_REGISTER, "Show", terms, 1) : word;
+}
+
 static uint32_t selects(void) {
     return infers(CELTISDARTS_INFER_SELECT, "", NULL, 0);
 }
@@ -157,6 +165,8 @@ int main(void) {
     wrong |= tries("a context is begun", NULL, begins, "");
     wrong |= tries("bounds are registered", NULL, registers, "");
     wrong |= tries("bounds are selected", registers, selects, "");
+    wrong |= tries("a bound is assumed", NULL, assumes, "");
+    wrong |= tries("bounds are selected under it", assumes, selects, "");
     wrong |= tries("a term is resolved", selects_first, resolves, "");
     wrong |= tries("a term is written", registers, writes, "V<?0t>");
     wrong |= tries("terms are equated", registers, equates, "");

@@ -51,7 +51,7 @@ DEFAULT_DEPTH = 128
 # The stack that a level of a search takes at most, and that which a call takes beside, in bytes.
 LEVEL, CALL = 3 << 10, 64 << 10
 # The version of the library's calls.
-ABI_VERSION = 1
+ABI_VERSION = 2
 # The stack of a thread that is kept for calls which the caller's is too small for, in bytes. At depth 255 a call takes some 0.7 MiB.
 DEEP_STACK = 8 << 20
 # How long a buffer for an answer is at first. A longer answer is asked for once more, in a longer one.
@@ -363,6 +363,8 @@ class Operation(enum.IntEnum):
     POINTER = 11
     POINTER_MUT = 12
     FUNCTION = 13
+    PARAM = 14
+    CONST_PARAM = 15
     EQ = 20
     CAN_EQ = 21
     REGISTER = 22
@@ -372,6 +374,7 @@ class Operation(enum.IntEnum):
     SNAPSHOT = 26
     COMMIT = 27
     ROLL_BACK = 28
+    ASSUME = 29
 
 
 @functools.lru_cache(maxsize=None)
@@ -909,6 +912,14 @@ def to_name(name: str) -> bytes:
     return to_bytes(name)
 
 
+def as_number(what: str, number: int, bits: int) -> int:
+    if not isinstance(number, int):
+        raise TypeError(f"{what} is int, and not {type(number).__name__}")
+    if not 0 <= number < 1 << bits:
+        raise ValueError(f"{what} is from 0 to {(1 << bits) - 1}, and not {number}")
+    return number
+
+
 def as_mutable(mutable: bool) -> bool:
     if not isinstance(mutable, bool):
         raise TypeError(f"`mutable` is bool, and not {type(mutable).__name__}")
@@ -928,6 +939,10 @@ class Infer:
 
     No solution of all that was asked is lost, and what is done has a proof by what the crate sees at each solution that is left. `NoSolution`, a
     refused obligation and a `can_eq` that is false say that there is no solution.
+
+    For the body of a generic function `param` gives its parameters, and `assume` takes its bounds. What is done has a proof under what was assumed
+    before it was registered. While something was registered under assumptions, or with parameters in it, nothing is promised of what says that
+    there is no solution.
 
     Terms and obligations are of the context that gave them: those of another raise ValueError. What a rollback took back raises NoSuchTerm, also
     where the library has given its number anew. Lifetimes are not told apart.
@@ -1038,6 +1053,15 @@ class Infer:
         """A new constant variable."""
         return self.operate(Operation.FRESH_CONST, self.new_term)
 
+    def param(self, number: int) -> Term:
+        """The type parameter of this number, as the `T` in the body of `fn f<T>(..)`: nothing is known of it but what is assumed. Equal numbers give
+        equal types, and others types that are never equal. Raises ValueError where the number has more than 32 bits or is negative."""
+        return self.operate(Operation.PARAM, self.new_term, number=as_number("a parameter", number, 32))
+
+    def const_param(self, number: int) -> Term:
+        """The constant parameter of this number, as the `N` in the body of `fn f<const N: usize>(..)`. Raises what `param` does."""
+        return self.operate(Operation.CONST_PARAM, self.new_term, number=as_number("a parameter", number, 32))
+
     def ty(self, name: str, *args: Term) -> Term:
         """A type by its name: a struct that the crate sees, with its arguments, or a type without parts, as `u8`, `str` and `!`. Raises NoSuchName
         and WrongTerms."""
@@ -1045,11 +1069,7 @@ class Infer:
 
     def constant(self, number: int) -> Term:
         """A constant. Raises ValueError where that has more than 64 bits or is negative."""
-        if not isinstance(number, int):
-            raise TypeError(f"a constant is int, and not {type(number).__name__}")
-        if not 0 <= number < 1 << 64:
-            raise ValueError(f"a constant is from 0 to {(1 << 64) - 1}, and not {number}")
-        return self.operate(Operation.CONSTANT, self.new_term, number=number)
+        return self.operate(Operation.CONSTANT, self.new_term, number=as_number("a constant", number, 64))
 
     def lifetime(self) -> Term:
         """The lifetime `'static`, for arguments that are lifetimes."""
@@ -1092,14 +1112,33 @@ class Infer:
         WrongTerms."""
         return self.operate(Operation.REGISTER, lambda number: self.new(Obligation, number), args, to_name(trait))
 
+    def assume(self, trait: str, *args: Term) -> None:
+        """Assumes that these terms implement this trait, the self type first: a bound of the generic function whose types are inferred. What is
+        registered from now on has to hold under that and the trait's supertraits, and may take values from it. What was registered before does not get
+        it. `Sized` is never implicit. A rollback takes it back. Raises NoSuchName and WrongTerms."""
+        self.operate(Operation.ASSUME, int, args, to_name(trait))
+
     def select_where_possible(self) -> Selected:
         """Selects the registered goals, until that fixes nothing new. What answers fix stays."""
-        return self.operate(Operation.SELECT, self.selected)
+        selected = self.operate(Operation.SELECT, self.selected)
+        assert selected is not None  # without a bound
+        return selected
 
-    def selected(self, given: int) -> Selected:
+    def select_within(self, nested_goals: int) -> Optional[Selected]:
+        """Selects as `select_where_possible` does, and stops before the next evaluation once so many nested goals were started. None is that it
+        stopped: what was found stays, and another call goes on. An evaluation is not cut short, and at least one is made: 0 is taken as 1. The
+        other call looks at the pending bounds again; where results are kept no goals start, and a number below what the others start gets no
+        further. Raises ValueError where the number has more than 64 bits or is negative.
+
+            while (selected := context.select_within(1000)) is None:
+                ..  # the caller may end the loop
+        """
+        return self.operate(Operation.SELECT, self.selected, number=max(1, as_number("a bound", nested_goals, 64)))
+
+    def selected(self, given: int) -> Optional[Selected]:
         if given < 2:
             return Pending() if given else AllDone()
-        return Refused(Obligation(self, given - 2, self.latest[Obligation, given - 2]))
+        return None if given == 2 else Refused(Obligation(self, given - 3, self.latest[Obligation, given - 3]))
 
     def standing(self, obligation: Obligation) -> Standing:
         """How an obligation stands since it was selected last."""
@@ -1111,7 +1150,8 @@ class Infer:
         return self.operate(Operation.RESOLVE, self.new_term, [term])
 
     def display(self, term: Term) -> str:
-        """A term as the language writes it. A type variable without a value is `?0t`, and a constant variable `?0c`: by their numbers."""
+        """A term as the language writes it. A type variable without a value is `?0t`, and a constant variable `?0c`: by their numbers. A
+        type parameter is `!0t`, and a constant parameter `!0c`."""
         shown = self.own(Term, term)
 
         def call(asker: Asker) -> str:

@@ -185,7 +185,7 @@ def try_prefix(tally: Tally, room: Path, env: Mapping[str, str]) -> None:
     cc = ["cc", "-std=c11", "-Wall", "-Wextra", "-Wpedantic", "-Werror", source]
     if succeeds(tally, "bindings/c: over the shared object", [*cc, *flags, "-o", room / "shared"], here):
         try_run(tally, "bindings/c: a program over the shared object", [room / "shared"], here)
-        tally.expect("bindings/c: its name", b"\0libceltisdarts.so.1\0" in (room / "shared").read_bytes(), "the program needs another")
+        tally.expect("bindings/c: its name", b"\0libceltisdarts.so.2\0" in (room / "shared").read_bytes(), "the program needs another")
     if succeeds(tally, "bindings/c: over the archive", [*cc, flags[0], lib / "libceltisdarts.a", "-o", room / "static"], env):
         try_run(tally, "bindings/c: a program over the archive", [room / "static"], env)
     for words, file in ((["nm", "--extern-only", "--defined-only"], "libceltisdarts.a"), (["nm", "-D", "--defined-only"], "libceltisdarts.so")):

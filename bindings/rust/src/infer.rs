@@ -49,6 +49,10 @@ pub enum Standing {
 /// lost. What is done has a proof at each solution that is left. [`Error::NoSolution`], a refused obligation and `false` of [`Infer::can_eq`]
 /// say that there is no solution. This is proved of the library's calls that succeed (`docs/PROMISES.md` of the repository).
 ///
+/// In the body of a generic function its type parameters are [`Infer::param`], and its bounds are assumed by [`Infer::assume`]. What is done
+/// has a proof under what was assumed before it was registered. While something was registered under assumptions, or with parameters in it,
+/// nothing is promised of what says that there is no solution.
+///
 /// It owns what it needs, as a [`Session`] does: a reading of the text, in which the workspace's sessions find again what it found. It may move
 /// to another thread. After an error it can be called again, after [`Error::Memory`] and [`Error::Full`] too, and nothing that was asked is lost: it
 /// is as it was before the call, but that a selection keeps what it found.
@@ -182,6 +186,31 @@ impl Infer {
     /// [`Error::Memory`] or [`Error::Full`].
     pub fn fresh_const(&mut self) -> Result<Term, Error> {
         self.of_terms(sys::INFER_FRESH_CONST, &[]).map(Term)
+    }
+
+    /// The type parameter of this number, as the `T` in the body of `fn f<T>(..)`: a type of which nothing is known but what is assumed. Equal
+    /// numbers give equal types, and different numbers types that are never equal.
+    ///
+    /// rustc: `Ty::new_param`, or `Ty::new_placeholder` where it stands for any type.
+    ///
+    /// # Errors
+    ///
+    /// [`Error::Memory`] or [`Error::Full`].
+    pub fn param(&mut self, number: u32) -> Result<Term, Error> {
+        self.of_number(sys::INFER_PARAM, number.into()).map(Term)
+    }
+
+    /// The constant parameter of this number, as the `N` in the body of `fn f<const N: usize>(..)`. It is no type parameter's, whatever its
+    /// number.
+    ///
+    /// rustc: `Const::new_param`, or `Const::new_placeholder`.
+    ///
+    /// # Errors
+    ///
+    /// [`Error::Memory`] or [`Error::Full`].
+    pub fn const_param(&mut self, number: u32) -> Result<Term, Error> {
+        self.of_number(sys::INFER_CONST_PARAM, number.into())
+            .map(Term)
     }
 
     /// A struct that the crate sees, with its arguments in their order: lifetimes, types and constants. Or a type without parts, by its word:
@@ -347,6 +376,35 @@ impl Infer {
         Ok(ObligationId(given))
     }
 
+    /// Assumes a bound: that these terms implement the trait, the self type first. What is registered from now on has to hold under it and under
+    /// the trait's supertraits, and may take values from it. What was registered before does not get it. A rollback takes it back.
+    ///
+    /// `Sized` is never implicit: for the body of `fn f<T>(..)` it is assumed of `T` too, where that is asked for.
+    ///
+    /// rustc: a clause in the `ParamEnv` of later obligations, elaborated. There too such clauses are preferred to impls.
+    ///
+    /// ```
+    /// # use celtisdarts::{Depth, Selected, Workspace};
+    /// # let text = "crate a\nstruct V<T>(T)\ntrait Show\ntrait Num: Show\nimpl<T> Show for V<T> where T: Show\n";
+    /// # let mut infer = Workspace::parse(text, Depth::default())?.session("a")?.infer()?;
+    /// // fn show_all<T: Num>(items: V<T>) { items.show() }
+    /// let item = infer.param(0)?;
+    /// infer.assume("Num", &[item])?;
+    /// let items = infer.ty("V", &[item])?;
+    /// infer.register("Show", &[items])?;
+    /// assert_eq!(infer.select_where_possible()?, Selected::AllDone);
+    /// assert_eq!(infer.display(items)?, "V<!0t>");
+    /// # Ok::<(), celtisdarts::Error>(())
+    /// ```
+    ///
+    /// # Errors
+    ///
+    /// Those of [`Infer::register`]. Then nothing is assumed.
+    pub fn assume(&mut self, trait_name: &str, args: &[Term]) -> Result<(), Error> {
+        self.of_name(sys::INFER_ASSUME, trait_name, args)
+            .map(|_| ())
+    }
+
     /// Evaluates the obligations that are not done, in the order in which they were registered, until that fixes no more values. What an answer
     /// fixes stays, also where the obligation stays pending.
     ///
@@ -358,10 +416,50 @@ impl Infer {
     ///
     /// [`Error::Memory`] or [`Error::Full`].
     pub fn select_where_possible(&mut self) -> Result<Selected, Error> {
-        Ok(match self.of_terms(sys::INFER_SELECT, &[])? {
-            0 => Selected::AllDone,
-            1 => Selected::Pending,
-            refused => Selected::Refused(ObligationId(refused - 2)),
+        let selected = self.select(0)?;
+        Ok(selected.expect("a selection without a bound does not stop"))
+    }
+
+    /// Selects as [`Infer::select_where_possible`] does, and stops before the next evaluation once so many nested goals were started: a bound on
+    /// the time that a call takes, as an editor needs between two keys. `None` is that it stopped. What was found stays, and another call goes
+    /// on.
+    ///
+    /// An evaluation that was begun is not cut short, so more goals may be started. At least one obligation is evaluated if one is left: 0 is
+    /// taken as 1. Another call looks at the pending obligations again. Those whose results are kept start no goals; a bound below what the
+    /// others start gets no further.
+    ///
+    /// rustc has no such bound.
+    ///
+    /// ```
+    /// # use celtisdarts::{Depth, Selected, Workspace};
+    /// # let text = "crate a\ntrait Show\nimpl Show for u8\n";
+    /// # let mut infer = Workspace::parse(text, Depth::default())?.session("a")?.infer()?;
+    /// # let byte = infer.ty("u8", &[])?;
+    /// # infer.register("Show", &[byte])?;
+    /// let selected = loop {
+    ///     if let Some(selected) = infer.select_within(1000)? {
+    ///         break selected;
+    ///     }
+    ///     // Here the caller may end the loop.
+    /// };
+    /// assert_eq!(selected, Selected::AllDone);
+    /// # Ok::<(), celtisdarts::Error>(())
+    /// ```
+    ///
+    /// # Errors
+    ///
+    /// [`Error::Memory`] or [`Error::Full`].
+    pub fn select_within(&mut self, nested_goals: u64) -> Result<Option<Selected>, Error> {
+        self.select(nested_goals.max(1))
+    }
+
+    /// Selects with a bound, or at 0 without one.
+    fn select(&mut self, nested_goals: u64) -> Result<Option<Selected>, Error> {
+        Ok(match self.of_number(sys::INFER_SELECT, nested_goals)? {
+            0 => Some(Selected::AllDone),
+            1 => Some(Selected::Pending),
+            2 => None,
+            refused => Some(Selected::Refused(ObligationId(refused - 3))),
         })
     }
 
@@ -396,7 +494,8 @@ impl Infer {
     }
 
     /// The term as text, as a type or a constant of the language of texts. A type variable without a value is written `?0t`, and a constant
-    /// variable `?0c`, with numbers of their own. Lifetimes are not written, so the text of one is empty.
+    /// variable `?0c`, with numbers of their own; a type parameter `!0t`, and a constant parameter `!0c`. Lifetimes are not written, so the text
+    /// of one is empty.
     ///
     /// rustc: how `Ty` is printed. rust-analyzer: `HirDisplay`.
     ///
@@ -436,8 +535,8 @@ impl Infer {
     }
 
     /// Ends the snapshot that was opened last, and makes the context as it was there: variables with their values, obligations and how they
-    /// stand. Terms and obligations that were given since have no numbers any more, and later ones get these. What searches found is kept. Gives
-    /// whether one was open.
+    /// stand, and what is assumed. Terms and obligations that were given since have no numbers any more, and later ones get these. What searches
+    /// found is kept. Gives whether one was open.
     ///
     /// rustc: `InferCtxt::rollback_to`. rust-analyzer: `InferenceTable::rollback_to`.
     ///

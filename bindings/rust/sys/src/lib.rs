@@ -20,7 +20,7 @@
 use core::ptr::NonNull;
 
 /// The version of the calls that are declared here. It is that of the linked library if it is [`celtisdarts_abi_version`].
-pub const ABI_VERSION: u32 = 1;
+pub const ABI_VERSION: u32 = 2;
 
 /// The SHA-256 sum of the archive that is linked, as it is noted beside it; `unknown` where nothing is.
 pub const ARCHIVE_SHA256: &str = env!("CELTISDARTS_ARCHIVE_SHA256");
@@ -92,13 +92,18 @@ pub const INFER_POINTER: u32 = 11;
 pub const INFER_POINTER_MUT: u32 = 12;
 /// Takes the inputs and then the output. Gives a term: the type of such functions.
 pub const INFER_FUNCTION: u32 = 13;
+/// Takes a number below 2^32. Gives a term: the type parameter of that number, of which nothing is known but what is assumed.
+pub const INFER_PARAM: u32 = 14;
+/// Takes a number below 2^32. Gives a term: the constant parameter of that number.
+pub const INFER_CONST_PARAM: u32 = 15;
 /// Takes two terms. Makes them equal, or ends with [`NO_SOLUTION`].
 pub const INFER_EQ: u32 = 20;
 /// Takes two terms. Gives 1 if known values let them be equal, and 0 if no solution does. Changes nothing.
 pub const INFER_CAN_EQ: u32 = 21;
 /// Takes the name of a trait, and its arguments, the self type first. Gives an obligation, which is not evaluated.
 pub const INFER_REGISTER: u32 = 22;
-/// Gives 0 if all obligations are done, 1 if some are pending, and `2 + n` if obligation `n` has no solution.
+/// Takes how many nested goals may be started, or 0 for no bound. Gives 0 if all obligations are done, 1 if some are pending, 2 if it stopped
+/// at the bound, so that another call goes on, and `3 + n` if obligation `n` has no solution.
 pub const INFER_SELECT: u32 = 23;
 /// Takes an obligation as the number. Gives 0 if it is done, 1 if it is pending, 2 if it is pending at a limit, and 3 if it was refused.
 pub const INFER_STANDING: u32 = 24;
@@ -110,6 +115,8 @@ pub const INFER_SNAPSHOT: u32 = 26;
 pub const INFER_COMMIT: u32 = 27;
 /// Gives 1 if a snapshot was open: all is as it was there, and numbers that were given since are taken back. Else 0.
 pub const INFER_ROLL_BACK: u32 = 28;
+/// Takes the name of a trait, and its arguments, the self type first. What is registered from now on has to hold under that and its supertraits.
+pub const INFER_ASSUME: u32 = 29;
 
 /// What is asked, behind a pointer that the library made. (The allocator that stands beside it there takes no bytes.)
 #[repr(C)]
@@ -188,8 +195,8 @@ extern "C" {
         number: u64,
         given: &mut u32,
     ) -> u32;
-    /// Writes a term, as a type or a constant of a text; a type variable without a value as `?0t`, a constant variable as `?0c`. Lifetimes are
-    /// not written.
+    /// Writes a term, as a type or a constant of a text; a type variable without a value as `?0t`, a constant variable as `?0c`, and
+    /// parameters as `!0t` and `!0c`. Lifetimes are not written.
     pub fn celtisdarts_infer_text(
         handle: &mut Handle,
         term: u32,
