@@ -44,6 +44,26 @@ struct G<T>
 trait Grow
 impl<T> Grow for T where G<T>: Grow
 """
+# What generic functions ask for.
+GENERIC = """\
+crate a
+struct Str
+struct V<T>(*const T)
+trait Eq
+trait Ord: Eq
+trait Other
+trait Into<T>
+trait Push<T>
+impl<T> Eq for V<T> where T: Eq
+impl<T, const N> Eq for [T; N] where T: Eq
+impl Eq for u8
+impl<T> Into<V<T>> for Str where T: Ord
+impl<T> Push<T> for V<T>
+trait One
+impl One for V<u8>
+trait Loop
+impl<T> Loop for T where V<T>: Loop
+"""
 QUERY = re.compile(rb" *(?:prove|refute) +in +(\w+)")
 
 
@@ -321,7 +341,7 @@ class Calls(unittest.TestCase):
         words = [sys.executable, "-B", "-c", "import celtisdarts; celtisdarts.ABI_VERSION = 7; celtisdarts.run('')"]
         ended = subprocess.run(words, cwd=Path(celtisdarts.__file__).parent, capture_output=True, text=True, check=False)
         self.assertEqual(ended.returncode, 1)
-        self.assertIn(" has version 1 of the calls, and this module is for 7", ended.stderr)
+        self.assertIn(" has version 2 of the calls, and this module is for 7", ended.stderr)
 
     def test_a_library_without_a_call(self) -> None:
         words = [sys.executable, "-B", "-c", "import celtisdarts; celtisdarts.CALLS['celtisdarts_more'] = ([], None); celtisdarts.run('')"]
@@ -429,16 +449,19 @@ class Contexts(unittest.TestCase):
                     lambda: it.ty("V", wrong), lambda: it.tuple(byte, wrong), lambda: it.slice(wrong), lambda: it.array(byte, wrong),
                     lambda: it.array(wrong, byte), lambda: it.reference(wrong), lambda: it.pointer(wrong), lambda: it.function([wrong], byte),
                     lambda: it.function([], wrong), lambda: it.eq(byte, wrong), lambda: it.eq(wrong, byte), lambda: it.can_eq(wrong, byte),
-                    lambda: it.register("Show", wrong), lambda: it.resolve(wrong), lambda: it.display(wrong),
+                    lambda: it.register("Show", wrong), lambda: it.assume("Show", wrong), lambda: it.resolve(wrong), lambda: it.display(wrong),
                 ])
             for wrong in (None, 0, "u8", byte):
                 self.refused(TypeError, [lambda: it.standing(wrong), lambda: it.function(wrong, byte)])
                 self.refused(TypeError, [lambda: it.reference(byte, wrong), lambda: it.pointer(byte, wrong)])
             for wrong in (None, 5, b"u8", byte):
-                self.refused(TypeError, [lambda: it.ty(wrong), lambda: it.register(wrong, byte)])
+                self.refused(TypeError, [lambda: it.ty(wrong), lambda: it.register(wrong, byte), lambda: it.assume(wrong, byte)])
             for wrong in (None, "3", 3.0, byte):
                 self.refused(TypeError, [lambda: it.constant(wrong)])
+                self.refused(TypeError, [lambda: it.param(wrong), lambda: it.const_param(wrong), lambda: it.select_within(wrong)])
             self.refused(ValueError, [lambda: it.constant(-1), lambda: it.constant(1 << 64)])
+            self.refused(ValueError, [lambda: it.param(-1), lambda: it.param(1 << 32), lambda: it.const_param(-1), lambda: it.const_param(1 << 32)])
+            self.refused(ValueError, [lambda: it.select_within(-1), lambda: it.select_within(1 << 64)])
             self.assertEqual((str(it.fresh_ty()), it.select_where_possible()), ("?0t", AllDone()))
 
     def test_a_rollback_takes_back(self) -> None:
@@ -496,6 +519,134 @@ class Contexts(unittest.TestCase):
             with it.probe():
                 it.close()
 
+    def generic(self) -> Infer:
+        """A context for the body of a generic function."""
+        return Workspace(GENERIC).session("a").infer()
+
+    def holds(self, context: Infer, trait: str, *args: Term) -> bool:
+        """Whether a goal that is registered now is done. Nothing of it is left."""
+        with context.probe():
+            goal = context.register(trait, *args)
+            selected = context.select_where_possible()
+            is_done = context.standing(goal) is Standing.DONE
+            self.assertEqual(selected == AllDone(), is_done)
+        return is_done
+
+    def test_parameters(self) -> None:
+        with self.generic() as it:
+            t, n, last = it.param(0), it.const_param(0), it.param((1 << 32) - 1)
+            displayed = [(t, "!0t"), (n, "!0c"), (last, "!4294967295t"), (it.ty("V", t), "V<!0t>"), (it.array(t, n), "[!0t; !0c]")]
+            self.assertEqual([str(it.resolve(term)) for term, _ in displayed], [text for _, text in displayed])
+            self.assertTrue(it.can_eq(t, it.param(0)))
+            it.eq(t, it.param(0))
+            for left, right in ((t, it.param(1)), (t, it.ty("u8")), (n, it.const_param(1)), (n, it.constant(0))):
+                self.assertFalse(it.can_eq(left, right))
+                with self.assertRaises(NoSolution):
+                    it.eq(left, right)
+            self.refused(WrongTerms, [lambda: it.slice(n), lambda: it.array(t, t)])
+
+    def test_what_is_assumed_holds_with_its_supertraits(self) -> None:
+        with self.generic() as it:
+            t, other = it.param(0), it.param(1)
+            it.assume("Ord", t)
+            own = it.ty("V", t)
+            done = [("Ord", t), ("Eq", t), ("Eq", own), ("Eq", it.array(own, it.const_param(0)))]
+            not_done = [("Other", t), ("Ord", own), ("Ord", other), ("Eq", other), ("Eq", it.ty("V", other)), ("Sized", t)]
+            self.assertEqual([self.holds(it, *goal) for goal in done], [True] * len(done))
+            self.assertEqual([self.holds(it, *goal) for goal in not_done], [False] * len(not_done))
+            it.assume("Copy", other)
+            self.assertEqual([self.holds(it, trait, other) for trait in ("Copy", "Clone", "Sized", "Eq")], [True, True, True, False])
+
+    def test_assumptions_and_impls_fix_variables(self) -> None:
+        with self.generic() as it:
+            t, unknown, other = it.param(0), it.fresh_ty(), it.fresh_ty()
+            it.assume("Ord", t)
+            it.assume("Into", t, it.ty("u8"))
+            goals = [it.register("Into", it.ty("Str"), unknown), it.register("Push", unknown, t), it.register("Into", t, other)]
+            self.assertEqual(it.select_where_possible(), AllDone())
+            self.assertEqual([it.standing(goal) for goal in goals], [Standing.DONE] * 3)
+            self.assertEqual((str(it.resolve(unknown)), str(it.resolve(other))), ("V<!0t>", "u8"))
+
+    def test_what_was_registered_before_an_assumption(self) -> None:
+        with self.generic() as it:
+            t = it.param(0)
+            before = it.register("Eq", t)
+            it.assume("Eq", t)
+            it.select_where_possible()
+            self.assertIsNot(it.standing(before), Standing.DONE)
+
+    def test_a_rollback_takes_assumptions_back(self) -> None:
+        with self.generic() as it:
+            t, u = it.param(0), it.param(1)
+
+            def stand() -> list[bool]:
+                return [self.holds(it, *goal) for goal in (("Eq", t), ("Ord", t), ("Eq", u))]
+
+            it.assume("Eq", t)
+            it.start_snapshot()
+            it.assume("Ord", t)
+            with it.probe():
+                it.assume("Eq", u)
+                self.assertEqual(stand(), [True, True, True])
+            self.assertEqual(stand(), [True, True, False])
+            it.start_snapshot()
+            it.assume("Eq", u)
+            self.assertTrue(it.commit())
+            self.assertEqual(stand(), [True, True, True])
+            self.assertTrue(it.roll_back())
+            self.assertEqual(stand(), [True, False, False])
+
+    def test_assumptions_that_are_refused(self) -> None:
+        with self.generic() as it:
+            t, n = it.param(0), it.const_param(0)
+            with it.probe():
+                gone = it.param(1)
+            self.refused(WrongTerms, [
+                lambda: it.assume("Eq"), lambda: it.assume("Eq", t, t), lambda: it.assume("Eq", n), lambda: it.assume("Into", t),
+                lambda: it.assume("Into", t, n),
+            ])
+            self.refused(NoSuchName, [lambda: it.assume("Show", t), lambda: it.assume("V", t), lambda: it.assume("", t), lambda: it.assume("\u00e9", t)])
+            self.refused(NoSuchTerm, [lambda: it.assume("Eq", gone), lambda: it.assume("Into", t, gone)])
+            self.assertEqual((self.holds(it, "Eq", t), self.holds(it, "Into", t, t)), (False, False))
+
+    def registered(self, it: Infer) -> tuple[list[Obligation], list[Term]]:
+        """Some twenty goals, and the terms whose values they fix."""
+        byte = it.ty("u8")
+        goals: list[Obligation] = []
+        terms: list[Term] = []
+        for _ in range(4):
+            unknown, item, unfixed = it.fresh_ty(), it.fresh_ty(), it.fresh_ty()
+            own = it.ty("V", item)
+            goals += [it.register("Eq", own), it.register("Push", unknown, byte), it.register("Push", unknown, item), it.register("Eq", unfixed)]
+            goals += [it.register("One", own), it.register("Eq", it.ty("V", it.ty("V", own)))]
+            terms += [unknown, item, unfixed]
+        return [*goals, it.register("Loop", byte), it.register("Eq", byte)], terms
+
+    def test_selections_that_stop_come_to_what_one_does(self) -> None:
+        def state(it: Infer, goals: Sequence[Obligation], terms: Sequence[Term]) -> tuple[list[Standing], list[str]]:
+            return [it.standing(goal) for goal in goals], [str(it.resolve(term)) for term in terms]
+
+        with self.generic() as whole:
+            goals, terms = self.registered(whole)
+            self.assertEqual(whole.select_where_possible(), Pending())
+            wanted = state(whole, goals, terms)
+        self.assertEqual({*wanted[0]}, {Standing.DONE, Standing.AMBIGUOUS, Standing.TOO_DEEP})
+        for bound in (0, 1, 2, 7, (1 << 64) - 1):
+            with self.generic() as it:
+                goals, terms = self.registered(it)
+                stops = 0
+                while (selected := it.select_within(bound)) is None:
+                    stops += 1
+                    self.assertLess(stops, 10_000)
+                self.assertEqual((selected, state(it, goals, terms)), (Pending(), wanted), bound)
+                self.assertTrue(stops > 0 if bound < 2 else bound < 8 or stops == 0, bound)
+
+    def test_a_selection_with_a_bound_says_what_is_refused(self) -> None:
+        with self.generic() as it:
+            self.assertEqual(it.select_within(1), AllDone())
+            wrong = it.register("Other", it.ty("u8"))
+            self.assertEqual((it.select_within(1000), it.select_where_possible()), (Refused(wrong), Refused(wrong)))
+
     def test_two_contexts_of_one_workspace(self) -> None:
         with self.session.infer() as it, self.session.infer() as other, self.workspace.session("base").infer() as further:
             unknown, byte = it.fresh_ty(), it.ty("u8")
@@ -507,7 +658,8 @@ class Contexts(unittest.TestCase):
                 self.assertEqual((str(context.resolve(variable)), variable == unknown), ("bool", False))
                 self.refused(ValueError, [
                     lambda: context.eq(variable, byte), lambda: context.ty("V", byte), lambda: context.resolve(byte),
-                    lambda: context.display(byte), lambda: context.register("Show", byte), lambda: context.standing(goal),
+                    lambda: context.display(byte), lambda: context.register("Show", byte), lambda: context.assume("Show", byte),
+                    lambda: context.standing(goal),
                 ])
                 with self.assertRaisesRegex(ValueError, "another context"):
                     context.slice(unknown)
@@ -523,6 +675,7 @@ class Contexts(unittest.TestCase):
             it.fresh_ty, it.fresh_const, lambda: it.ty("u8"), lambda: it.constant(3), it.lifetime, it.tuple, lambda: it.slice(byte), lambda: str(byte),
             lambda: it.array(byte, byte), lambda: it.reference(byte), lambda: it.pointer(byte), lambda: it.function([], byte), lambda: it.eq(byte, byte),
             lambda: it.can_eq(byte, byte), lambda: it.register("Show", byte), it.select_where_possible, lambda: it.standing(goal),
+            lambda: it.param(0), lambda: it.const_param(0), lambda: it.assume("Show", byte), lambda: it.select_within(1),
             lambda: it.resolve(byte), it.start_snapshot, it.commit, it.roll_back, it.probe().__enter__,
         ]
         for call in calls:

@@ -1,4 +1,4 @@
-//! Inference contexts: each operation, each error, rollbacks, and contexts beside sessions and threads.
+//! Inference contexts: each operation, each error, rollbacks, bounds that are assumed, and contexts beside sessions and threads.
 
 use celtisdarts::{
     Depth, Error, Infer, ObligationId, ProveAnswer, Selected, Session, Standing, Term, Workspace,
@@ -23,6 +23,24 @@ trait One
 impl One for V<u8>
 trait Len
 impl Len for [u8; 3]
+trait Loop
+impl<T> Loop for T where V<T>: Loop
+";
+
+/// What generic functions ask for.
+const GENERIC: &str = "\
+crate a
+struct Str
+struct V<T>(*const T)
+trait Eq
+trait Ord: Eq
+trait Other
+trait Into<T>
+impl<T> Eq for V<T> where T: Eq
+impl<T, const N> Eq for [T; N] where T: Eq
+impl<T> Into<V<T>> for Str where T: Ord
+impl Eq for u8
+impl Into<u16> for u8
 trait Loop
 impl<T> Loop for T where V<T>: Loop
 ";
@@ -63,6 +81,22 @@ fn asks(infer: &mut Infer, name: &str, args: &[Term]) -> (ObligationId, Selected
 fn decides(infer: &mut Infer, variable: Term) -> Selected {
     let own = infer.ty("V", &[variable]).unwrap();
     asks(infer, "One", &[own]).1
+}
+
+/// A context for the body of a generic function.
+fn generic() -> Infer {
+    workspace(GENERIC).session("a").unwrap().infer().unwrap()
+}
+
+/// Whether a bound that is registered now is done. Nothing of it is left.
+fn holds(infer: &mut Infer, name: &str, args: &[Term]) -> bool {
+    let standing = infer.probe(|infer| {
+        let (asked, selected) = asks(infer, name, args);
+        let standing = infer.standing(asked).unwrap();
+        assert_eq!(selected == Selected::AllDone, standing == Standing::Done);
+        standing
+    });
+    standing == Ok(Standing::Done)
 }
 
 /// Infers the type of `v` in `let v = s.into(); v.push(1u8)`, where `s` is a `Str`.
@@ -381,6 +415,348 @@ fn a_probe_leaves_nothing() {
     infer.start_snapshot().unwrap();
     assert_eq!(infer.probe(one), Ok(Selected::AllDone));
     assert_eq!(infer.commit(), Ok(true));
+}
+
+#[test]
+fn parameters_are_written_by_their_numbers() -> Result<(), Error> {
+    let mut infer = generic();
+    let infer = &mut infer;
+    let (t, n) = (infer.param(0)?, infer.const_param(0)?);
+    let last = infer.param(u32::MAX)?;
+    let terms = [
+        (t, "!0t"),
+        (n, "!0c"),
+        (infer.param(1)?, "!1t"),
+        (last, "!4294967295t"),
+        (infer.const_param(u32::MAX)?, "!4294967295c"),
+        (infer.ty("V", &[t])?, "V<!0t>"),
+        (infer.array(t, n)?, "[!0t; !0c]"),
+        (infer.tuple(&[t, last])?, "(!0t, !4294967295t)"),
+    ];
+    for (term, wanted) in terms {
+        assert_eq!(infer.display(term)?, wanted);
+        assert_eq!(shown(infer, term), wanted);
+    }
+    assert_eq!(infer.slice(n), Err(Error::WrongTerms));
+    assert_eq!(infer.array(t, t), Err(Error::WrongTerms));
+    Ok(())
+}
+
+#[test]
+fn a_parameter_is_equal_to_itself_alone() -> Result<(), Error> {
+    let mut infer = generic();
+    let (t, again, other) = (infer.param(3)?, infer.param(3)?, infer.param(4)?);
+    let (n, m) = (infer.const_param(3)?, infer.const_param(4)?);
+    assert_eq!(infer.can_eq(t, again), Ok(true));
+    assert_eq!(infer.eq(t, again), Ok(()));
+    let (byte, three) = (infer.ty("u8", &[])?, infer.constant(3)?);
+    for (left, right) in [(t, other), (t, byte), (n, m), (n, three)] {
+        assert_eq!(infer.can_eq(left, right), Ok(false));
+        assert_eq!(infer.eq(left, right), Err(Error::NoSolution));
+    }
+    let (own, v) = (infer.ty("V", &[t])?, infer.fresh_ty()?);
+    infer.eq(v, own)?;
+    assert_eq!(shown(&mut infer, v), "V<!3t>");
+    Ok(())
+}
+
+#[test]
+fn what_is_assumed_holds_with_its_supertraits() -> Result<(), Error> {
+    let mut infer = generic();
+    let infer = &mut infer;
+    let (t, other) = (infer.param(0)?, infer.param(1)?);
+    infer.assume("Ord", &[t])?;
+    let (list, other_list) = (infer.ty("V", &[t])?, infer.ty("V", &[other])?);
+    let n = infer.const_param(0)?;
+    let array = infer.array(list, n)?;
+    for (name, term, wanted) in [
+        ("Ord", t, true),
+        ("Eq", t, true),
+        ("Eq", list, true),
+        ("Eq", array, true),
+        ("Other", t, false),
+        ("Ord", list, false),
+        ("Ord", other, false),
+        ("Eq", other, false),
+        ("Eq", other_list, false),
+    ] {
+        let found = holds(infer, name, &[term]);
+        assert_eq!(found, wanted, "{}: {name}", infer.display(term)?);
+    }
+    // No built-in rule gives a parameter `Sized`. Those of tuples are as ever.
+    assert!(!holds(infer, "Sized", &[other]));
+    infer.assume("Copy", &[other])?;
+    let pair = infer.tuple(&[other, other])?;
+    for (name, term) in [("Sized", other), ("Clone", other), ("Copy", pair)] {
+        assert!(holds(infer, name, &[term]), "{name}");
+    }
+    Ok(())
+}
+
+#[test]
+fn assumptions_and_impls_give_values() -> Result<(), Error> {
+    let mut infer = generic();
+    let (t, from) = (infer.param(0)?, infer.ty("Str", &[])?);
+    let (v, item, into) = (infer.fresh_ty()?, infer.fresh_ty()?, infer.fresh_ty()?);
+    let byte = infer.ty("u8", &[])?;
+    infer.assume("Ord", &[t])?;
+    infer.assume("Into", &[t, byte])?;
+    infer.register("Into", &[from, v])?;
+    let list = infer.ty("V", &[item])?;
+    infer.eq(v, list)?;
+    infer.eq(item, t)?;
+    infer.register("Eq", &[v])?;
+    infer.register("Into", &[t, into])?;
+    assert_eq!(infer.select_where_possible(), Ok(Selected::AllDone));
+    assert_eq!(shown(&mut infer, v), "V<!0t>");
+    assert_eq!(shown(&mut infer, into), "u8");
+    Ok(())
+}
+
+#[test]
+fn an_impl_gives_a_value_with_a_parameter() -> Result<(), Error> {
+    let mut infer = infer();
+    let (t, from, v) = (infer.param(0)?, infer.ty("Str", &[])?, infer.fresh_ty()?);
+    infer.assume("Show", &[t])?;
+    infer.register("Into", &[from, v])?;
+    infer.register("Push", &[v, t])?;
+    infer.register("Show", &[v])?;
+    assert_eq!(infer.select_where_possible(), Ok(Selected::AllDone));
+    assert_eq!(shown(&mut infer, v), "V<!0t>");
+    Ok(())
+}
+
+#[test]
+fn what_was_registered_before_is_not_done_by_an_assumption() -> Result<(), Error> {
+    let mut infer = generic();
+    let (t, byte) = (infer.param(0)?, infer.ty("u8", &[])?);
+    let first = infer.register("Eq", &[byte])?;
+    let before = infer.register("Eq", &[t])?;
+    infer.assume("Eq", &[t])?;
+    infer.select_where_possible()?;
+    assert_eq!(infer.standing(first), Ok(Standing::Done));
+    assert_ne!(infer.standing(before), Ok(Standing::Done));
+    Ok(())
+}
+
+#[test]
+fn a_rollback_takes_assumptions_back() -> Result<(), Error> {
+    let mut infer = generic();
+    let (t, u) = (infer.param(0)?, infer.param(1)?);
+    let stands = |infer: &mut Infer| {
+        [("Eq", t), ("Ord", t), ("Eq", u)].map(|it| holds(infer, it.0, &[it.1]))
+    };
+    infer.assume("Eq", &[t])?;
+    infer.start_snapshot()?;
+    infer.assume("Ord", &[t])?;
+    infer.start_snapshot()?;
+    infer.assume("Eq", &[u])?;
+    assert_eq!(stands(&mut infer), [true, true, true]);
+    assert_eq!(infer.roll_back(), Ok(true));
+    assert_eq!(stands(&mut infer), [true, true, false]);
+    infer.start_snapshot()?;
+    infer.assume("Eq", &[u])?;
+    assert_eq!(infer.commit(), Ok(true));
+    assert_eq!(stands(&mut infer), [true, true, true]);
+    // What was committed inside a snapshot is rolled back with that.
+    assert_eq!(infer.roll_back(), Ok(true));
+    assert_eq!(stands(&mut infer), [true, false, false]);
+    assert_eq!(infer.probe(|infer| infer.assume("Eq", &[u])), Ok(Ok(())));
+    assert_eq!(stands(&mut infer), [true, false, false]);
+    Ok(())
+}
+
+#[test]
+fn a_context_begins_without_assumptions() -> Result<(), Error> {
+    let session = workspace(GENERIC).session("a")?;
+    for number in 0..3 {
+        let mut infer = session.infer()?;
+        let t = infer.param(number)?;
+        assert!(!holds(&mut infer, "Eq", &[t]));
+        infer.assume("Ord", &[t])?;
+        assert!(holds(&mut infer, "Eq", &[t]));
+        assert_eq!(session.prove("u8: Eq"), Ok(ProveAnswer::Yes(vec![])));
+    }
+    Ok(())
+}
+
+#[test]
+fn assumptions_that_are_no_bounds_are_refused() -> Result<(), Error> {
+    let mut infer = generic();
+    let (t, n, v) = (infer.param(0)?, infer.const_param(0)?, infer.fresh_ty()?);
+    let gone = infer.probe(|infer| infer.param(1))??;
+    for (name, args, error) in [
+        ("Eq", &[][..], Error::WrongTerms),
+        ("Eq", &[t, t], Error::WrongTerms),
+        ("Eq", &[n], Error::WrongTerms),
+        ("Into", &[t], Error::WrongTerms),
+        ("Into", &[t, n], Error::WrongTerms),
+        ("Show", &[t], Error::NoSuchName),
+        ("V", &[t], Error::NoSuchName),
+        ("", &[t], Error::NoSuchName),
+        ("Eq", &[gone], Error::NoSuchTerm),
+        ("Into", &[t, gone], Error::NoSuchTerm),
+    ] {
+        assert_eq!(infer.assume(name, args), Err(error), "{name} of {args:?}");
+    }
+    // Nothing was assumed.
+    assert!(!holds(&mut infer, "Eq", &[t]));
+    assert!(!holds(&mut infer, "Into", &[t, v]));
+    Ok(())
+}
+
+/// Registers some twenty bounds, and one that has no solution if it is asked for. Gives them, and the terms whose values they decide.
+fn registers_many(
+    infer: &mut Infer,
+    refused: bool,
+) -> Result<(Vec<ObligationId>, Vec<Term>), Error> {
+    let (text, byte) = (infer.ty("Str", &[])?, infer.ty("u8", &[])?);
+    let (mut bounds, mut terms) = (Vec::new(), Vec::new());
+    for _ in 0..4 {
+        let (v, item, open) = (infer.fresh_ty()?, infer.fresh_ty()?, infer.fresh_ty()?);
+        let mut list = infer.ty("V", &[item])?;
+        terms.extend([v, item, open]);
+        bounds.push(infer.register("Show", &[list])?);
+        bounds.push(infer.register("Push", &[v, byte])?);
+        bounds.push(infer.register("Into", &[text, v])?);
+        bounds.push(infer.register("Show", &[open])?);
+        bounds.push(infer.register("One", &[list])?);
+        for _ in 0..5 {
+            list = infer.ty("V", &[list])?;
+        }
+        bounds.push(infer.register("Show", &[list])?);
+    }
+    bounds.push(infer.register("Loop", &[byte])?);
+    if refused {
+        bounds.push(infer.register("One", &[text])?);
+    }
+    bounds.push(infer.register("Show", &[byte])?);
+    Ok((bounds, terms))
+}
+
+/// How bounds stand, and the values of terms.
+fn state(
+    infer: &mut Infer,
+    bounds: &[ObligationId],
+    terms: &[Term],
+) -> (Vec<Standing>, Vec<String>) {
+    let standings = bounds.iter().map(|it| infer.standing(*it).unwrap());
+    let standings = standings.collect();
+    (
+        standings,
+        terms.iter().map(|it| shown(infer, *it)).collect(),
+    )
+}
+
+#[test]
+fn selections_that_stop_come_to_what_one_selection_does() -> Result<(), Error> {
+    for refused in [false, true] {
+        let mut whole = infer();
+        let (bounds, terms) = registers_many(&mut whole, refused)?;
+        let selected = whole.select_where_possible()?;
+        let wanted = state(&mut whole, &bounds, &terms);
+        assert_eq!(matches!(selected, Selected::Refused(_)), refused);
+        for nested_goals in [0, 1, 2, 7, u64::MAX] {
+            let mut infer = infer();
+            assert_eq!(
+                registers_many(&mut infer, refused)?,
+                (bounds.clone(), terms.clone())
+            );
+            let mut stops = 0;
+            let ended = loop {
+                if let Some(ended) = infer.select_within(nested_goals)? {
+                    break ended;
+                }
+                stops += 1;
+                assert!(stops < 10_000, "a bound of {nested_goals} never ends");
+            };
+            assert_eq!(ended, selected, "{nested_goals}");
+            // (What was looked at before the refusal depends on where it stopped.)
+            assert!(refused || state(&mut infer, &bounds, &terms) == wanted);
+            assert!(nested_goals > 1 || stops > 0);
+            assert!(nested_goals < u64::MAX || stops == 0);
+        }
+    }
+    Ok(())
+}
+
+#[test]
+fn a_selection_that_stopped_is_rolled_back() -> Result<(), Error> {
+    let mut infer = infer();
+    let open = infer.fresh_ty()?;
+    assert_eq!(infer.select_within(1), Ok(Some(Selected::AllDone)));
+    infer.start_snapshot()?;
+    let (bounds, terms) = registers_many(&mut infer, false)?;
+    assert_eq!(infer.select_within(1), Ok(None));
+    assert_eq!(infer.roll_back(), Ok(true));
+    assert_eq!(infer.select_within(1), Ok(Some(Selected::AllDone)));
+    assert_eq!(registers_many(&mut infer, false)?, (bounds, terms));
+    assert_eq!(infer.select_where_possible(), Ok(Selected::Pending));
+    assert_eq!(shown(&mut infer, open), "?0t");
+    Ok(())
+}
+
+/// Makes calls that a generator draws, and compares what each rollback restores.
+fn makes_calls(seed: u64) -> Result<(), Error> {
+    let mut drawn = seed;
+    let mut draw = |sides: usize| {
+        drawn = drawn
+            .wrapping_mul(6_364_136_223_846_793_005)
+            .wrapping_add(1_442_695_040_888_963_407);
+        (drawn >> 33) as usize % sides
+    };
+    let mut infer = generic();
+    let mut terms = vec![
+        infer.fresh_ty()?,
+        infer.ty("u8", &[])?,
+        infer.ty("Str", &[])?,
+    ];
+    let (mut bounds, mut saved) = (Vec::new(), Vec::new());
+    for _ in 0..120 {
+        let pair = [terms[draw(terms.len())], terms[draw(terms.len())]];
+        let name = ["Eq", "Ord", "Other", "Copy", "Sized", "Into"][draw(6)];
+        let args = if name == "Into" {
+            &pair[..]
+        } else {
+            &pair[..1]
+        };
+        match draw(10) {
+            0 => terms.push(infer.fresh_ty()?),
+            1 => terms.push(infer.param(draw(3) as u32)?),
+            2 => terms.push(infer.ty("V", &pair[..1])?),
+            3 => terms.push(infer.slice(pair[0])?),
+            4 => {
+                let could_be = infer.can_eq(pair[0], pair[1])?;
+                assert!(infer.eq(pair[0], pair[1]).is_err() || could_be);
+            }
+            5 => infer.assume(name, args)?,
+            6 => bounds.push(infer.register(name, args)?),
+            7 => drop(infer.select_within(draw(4) as u64)?),
+            8 => {
+                saved.push((
+                    terms.clone(),
+                    bounds.clone(),
+                    state(&mut infer, &bounds, &terms),
+                ));
+                infer.start_snapshot()?;
+            }
+            _ => {
+                assert_eq!(infer.roll_back()?, !saved.is_empty());
+                if let Some(before) = saved.pop() {
+                    (terms, bounds) = (before.0, before.1);
+                    assert_eq!(state(&mut infer, &bounds, &terms), before.2);
+                }
+            }
+        }
+    }
+    Ok(())
+}
+
+#[test]
+fn rollbacks_restore_what_calls_in_any_order_did() {
+    for seed in 1..=100 {
+        assert_eq!(makes_calls(seed), Ok(()), "{seed}");
+    }
 }
 
 #[test]
