@@ -159,7 +159,9 @@ def arguments(listed: str) -> list[str]:
 
 
 def rust_line(line: str) -> str:
-    """A line of the toy language, in Rust."""
+    """A line of the toy language, in Rust. The head of a function with a body is the same there."""
+    if line.endswith(" {") or line == "}":
+        return line
     function = FUNCTION.fullmatch(line)
     if function:
         inputs = ", ".join(f"_: {it}" for it in arguments(function[2]))

@@ -1,18 +1,23 @@
 //! A type checker of a toy language, which infers types in a context of the library: cargo run --example type_checker -- FILE
 //!
-//! A program is the declarations of a text, an empty line, and then functions without bodies, `let` lines and calls. A number ends with its
-//! type. For each parameter of a called function there is a variable. Arguments get the types of inputs, and the function's bounds are
-//! registered, with `Sized` for each variable. A bound that is refused is an error, and then the program is checked again without it. At last
-//! each bound has to be done, and each type has to be known. For `examples/toy/program.txt` it prints this, and the status is 1:
+//! A program is the declarations of a text, an empty line, and then functions, `let` lines and calls. A number ends with its type. For each
+//! parameter of a called function there is a variable. Arguments get the types of inputs, and the function's bounds are registered, with
+//! `Sized` for each variable. A bound that is refused is an error, and then the program is checked again without it. At last each bound has to
+//! be done, and each type has to be known.
+//!
+//! The body of a function is the lines between `{` and `}`, if it has one. It is checked in a snapshot, where the function's parameters are
+//! parameters of the context, and its bounds are assumed. A bound that is not done is an error there too. For `examples/toy/program.txt` it
+//! prints this, and the status is 1:
 //! ```text
-//! line 14: V<u8>: Named does not hold
-//! line 17: expected V<u16>, found V<u32>
+//! line 14: T: Named does not hold
+//! line 20: V<u8>: Named does not hold
+//! line 23: expected V<u16>, found V<u32>
 //! ```
 
 use celtisdarts::{Depth, Error::NoSolution, Infer, ObligationId, Selected, Standing, Term};
 use std::collections::{BTreeMap, BTreeSet, HashMap};
-use std::{env, error::Error, fs, process::ExitCode};
-use toy::{bound, is_sign, number_type, parts, without_variables, Function};
+use std::{env, error::Error, fs, mem, process::ExitCode};
+use toy::{bound, is_sign, number_type, parts, with_names, Function};
 mod toy;
 
 type Checked<T> = Result<T, Box<dyn Error>>;
@@ -34,11 +39,25 @@ struct Checker {
 #[derive(Default)]
 struct Round {
     functions: HashMap<String, String>,
+    body: Body,
+    /// The lines around the body of a function.
+    outer: Option<Body>,
+    errors: BTreeSet<(usize, String)>,
+}
+
+/// What is known in the body of a function, or in the lines outside of all of them.
+#[derive(Default)]
+struct Body {
+    line: usize,
+    params: Vec<String>,
+    own: Types,
+    output: Option<Term>,
     names: Types,
     /// Variables, with their lines.
     variables: Vec<(usize, Term)>,
     bounds: Vec<Bound>,
-    errors: BTreeSet<(usize, String)>,
+    returns: bool,
+    is_wrong: bool,
 }
 
 impl Checker {
@@ -46,7 +65,8 @@ impl Checker {
         let mut shown = Vec::new();
         for term in terms {
             let resolved = self.infer.resolve(*term)?;
-            shown.push(without_variables(&self.infer.display(resolved)?));
+            let text = self.infer.display(resolved)?;
+            shown.push(with_names(&text, &self.round.body.params));
         }
         Ok(shown.join(", "))
     }
@@ -60,7 +80,7 @@ impl Checker {
 
     fn fresh(&mut self) -> Checked<Term> {
         let made = self.infer.fresh_ty()?;
-        self.round.variables.push((self.at.0, made));
+        self.round.body.variables.push((self.at.0, made));
         self.register("Sized", vec![made])?;
         Ok(made)
     }
@@ -95,17 +115,22 @@ impl Checker {
 
     fn register(&mut self, name: &str, args: Vec<Term>) -> Checked<()> {
         self.at.1 += 1;
-        if !self.refused.contains_key(&self.at) {
+        if self.refused.contains_key(&self.at) {
+            self.round.body.is_wrong = true;
+        } else {
             let id = self.infer.register(name, &args);
             let id = id.map_err(|it| format!("{name}: {it}"))?;
-            self.round.bounds.push((id, self.at, name.into(), args));
+            let bound = (id, self.at, name.into(), args);
+            self.round.body.bounds.push(bound);
         }
         Ok(())
     }
 
     fn select(&mut self) -> Checked<()> {
         if let Selected::Refused(id) = self.infer.select_where_possible()? {
-            let found = self.round.bounds.iter().find(|it| it.0 == id).cloned();
+            let outer = self.round.outer.iter().flat_map(|it| &it.bounds);
+            let mut bounds = self.round.body.bounds.iter().chain(outer);
+            let found = bounds.find(|it| it.0 == id).cloned();
             let found = found.ok_or("an obligation of nobody")?;
             let error = self.shown_bound(&found)? + " does not hold";
             self.refused.entry(found.1).or_insert(error);
@@ -120,7 +145,7 @@ impl Checker {
             return self.written(&Types::new(), number);
         }
         let Some(name) = head.strip_suffix('(') else {
-            let known = self.round.names.get(text).copied();
+            let known = self.round.body.names.get(text).copied();
             return known.ok_or_else(|| format!("`{text}` is not known").into());
         };
         let function = self.round.functions.get(name).cloned();
@@ -150,18 +175,85 @@ impl Checker {
         self.written(&own, function.output)
     }
 
+    /// Begins the body of a function, in a snapshot.
+    fn open(&mut self, function: &Function) -> Checked<()> {
+        if self.round.outer.is_some() {
+            return Err("it is inside of a function".into());
+        }
+        self.infer.start_snapshot()?;
+        let params = function.params.iter().map(|it| it.to_string()).collect();
+        let body = Body {
+            line: self.at.0,
+            params,
+            ..Body::default()
+        };
+        self.round.outer = Some(mem::replace(&mut self.round.body, body));
+        let mut own = Types::new();
+        for (number, name) in (0..).zip(&function.params) {
+            let param = self.infer.param(number)?;
+            self.infer.assume("Sized", &[param])?;
+            own.insert(name.to_string(), param);
+        }
+        self.round.body.own = own.clone();
+        for (name, args) in function.bounds.iter().map(|it| bound(it)) {
+            let args = self.types(&own, &args)?;
+            let assumed = self.infer.assume(name, &args);
+            assumed.map_err(|it| format!("{name}: {it}"))?;
+        }
+        let inputs = self.types(&own, &function.inputs)?;
+        let names = function.names.iter().map(|it| it.to_string());
+        self.round.body.names = names.zip(inputs).collect();
+        self.round.body.output = Some(self.written(&own, function.output)?);
+        Ok(())
+    }
+
+    /// Ends the body of a function. What was assumed and found in it is rolled back.
+    fn close(&mut self) -> Checked<()> {
+        let outer = self.round.outer.take().ok_or("no body ends here")?;
+        let nothing = self.infer.tuple(&[])?;
+        let output = self.round.body.output.filter(|_| !self.round.body.returns);
+        if let Err(error) = self.unify(output.unwrap_or(nothing), nothing) {
+            self.note(self.round.body.line, error.to_string());
+        }
+        self.check_end()?;
+        self.infer.roll_back()?;
+        self.round.body = outer;
+        Ok(())
+    }
+
+    fn note(&mut self, line: usize, error: String) {
+        self.round.body.is_wrong = true;
+        self.round.errors.insert((line, error));
+    }
+
     fn check_line(&mut self, text: &str) -> Checked<()> {
         if let Some(function) = text.strip_prefix("fn ") {
             let name = function.split(is_sign).next().unwrap_or("");
-            self.round.functions.insert(name.into(), function.into());
+            let (head, has_body) = match function.strip_suffix(" {") {
+                Some(head) => (head, true),
+                None => (function, false),
+            };
+            self.round.functions.insert(name.into(), head.into());
+            if has_body {
+                self.open(&Function::of(head))?;
+            }
+        } else if text == "}" {
+            self.close()?;
+        } else if let Some(value) = text.strip_prefix("return ") {
+            let wanted = self.round.body.output.ok_or("there is no function")?;
+            self.round.body.returns = true;
+            let found = self.type_of(value)?;
+            self.unify(wanted, found)?;
+            self.select()?;
         } else if let Some((left, right)) = text.split_once(" = ") {
             let left = left.strip_prefix("let ").ok_or("`let` is missing")?;
+            let own = self.round.body.own.clone();
             let (name, wanted) = match left.split_once(": ") {
-                Some((name, ty)) => (name, self.written(&Types::new(), ty)?),
+                Some((name, ty)) => (name, self.written(&own, ty)?),
                 None => (left, self.fresh()?),
             };
             let found = self.type_of(right);
-            self.round.names.insert(name.into(), wanted);
+            self.round.body.names.insert(name.into(), wanted);
             self.unify(wanted, found?)?;
             self.select()?;
         } else if !text.is_empty() && !text.starts_with("//") {
@@ -170,21 +262,26 @@ impl Checker {
         Ok(())
     }
 
-    /// Notes the lines whose types or bounds are not decided.
+    /// Notes the lines of the body whose types or bounds are not decided, if nothing else is wrong there.
     fn check_end(&mut self) -> Checked<()> {
+        if self.round.body.is_wrong {
+            return Ok(());
+        }
         let unknown = || String::from("type annotations needed");
-        for (line, variable) in self.round.variables.clone() {
+        for (line, variable) in self.round.body.variables.clone() {
             if self.shown(&[variable])?.contains('_') {
-                self.round.errors.insert((line, unknown()));
+                self.note(line, unknown());
             }
         }
-        for bound in self.round.bounds.clone() {
+        for bound in self.round.body.bounds.clone() {
+            let shown = self.shown_bound(&bound)?;
             let error = match self.infer.standing(bound.0)? {
                 Standing::Done | Standing::Refused => continue,
-                Standing::Ambiguous => unknown(),
+                Standing::Ambiguous if shown.contains('_') => unknown(),
+                Standing::Ambiguous => shown + " does not hold",
                 Standing::TooDeep => format!("overflow evaluating {}", bound.2),
             };
-            self.round.errors.insert((bound.1 .0, error));
+            self.note(bound.1 .0, error);
         }
         Ok(())
     }
@@ -195,13 +292,14 @@ impl Checker {
         for (line, text) in (first..).zip(lines.lines()) {
             self.at = (line, 0);
             if let Err(error) = self.check_line(text.trim()) {
-                self.round.errors.insert((line, error.to_string()));
+                self.note(line, error.to_string());
             }
         }
-        if self.round.errors.is_empty() && self.refused.is_empty() {
-            self.check_end()?;
+        if self.round.outer.is_some() {
+            self.note(self.round.body.line, "its `}` is missing".into());
+            self.close()?;
         }
-        Ok(())
+        self.check_end()
     }
 
     fn check(mut self, first: usize, lines: &str) -> Checked<BTreeSet<(usize, String)>> {

@@ -2,17 +2,19 @@
 
 const INTEGERS: &str = "i8 i16 i32 i64 i128 isize u8 u16 u32 u64 u128 usize";
 
-/// Whether it ends a word. A variable `?0t` is one word.
+/// Whether it ends a word. A variable `?0t` is one word, and a parameter `!0t`.
 pub fn is_sign(sign: char) -> bool {
-    !sign.is_ascii_alphanumeric() && sign != '_' && sign != '?'
+    !sign.is_ascii_alphanumeric() && !"_?!".contains(sign)
 }
 
-/// The type with `_` in place of each variable, as rustc prints it.
-pub fn without_variables(text: &str) -> String {
+/// The type as rustc prints it: `_` in place of each variable, and the name of each parameter.
+pub fn with_names(text: &str, params: &[String]) -> String {
     let pieces = text.split_inclusive(is_sign).map(|piece| {
         let word = piece.trim_end_matches(is_sign);
+        let number = word.strip_prefix('!').map(|it| it.trim_end_matches('t'));
+        let param = number.and_then(|it| params.get(it.parse::<usize>().ok()?));
         let shown = if word.starts_with('?') { "_" } else { word };
-        shown.to_string() + &piece[word.len()..]
+        param.map_or(shown, |it| it).to_string() + &piece[word.len()..]
     });
     pieces.collect()
 }
@@ -43,9 +45,10 @@ pub fn number_type(word: &str) -> Option<&str> {
     (is_integer && suffix != word).then_some(suffix)
 }
 
-/// A function `f<T>(T) -> V<T> where T: Num`: its parameters, inputs, output and bounds.
+/// A function `f<T>(T) -> V<T> where T: Num`: its parameters, inputs, output and bounds. An input may have a name, as in `f<T>(x: T)`.
 pub struct Function<'t> {
     pub params: Vec<&'t str>,
+    pub names: Vec<&'t str>,
     pub inputs: Vec<&'t str>,
     pub output: &'t str,
     pub bounds: Vec<&'t str>,
@@ -56,9 +59,14 @@ impl<'t> Function<'t> {
         let (head, bounds) = text.split_once(" where ").unwrap_or((text, ""));
         let (head, output) = head.split_once(" -> ").unwrap_or((head, "()"));
         let (name, inputs) = head.split_at(head.find('(').unwrap_or(0));
+        let inputs = parts(inputs).1.into_iter();
+        let (names, inputs) = inputs
+            .map(|it| it.split_once(": ").unwrap_or(("_", it)))
+            .unzip();
         Function {
             params: parts(name).1,
-            inputs: parts(inputs).1,
+            names,
+            inputs,
             output,
             bounds: items(bounds),
         }
