@@ -9,6 +9,10 @@ use Rattle.type_terms.specs.Promised.Rules.{sized, clone, copy, tuple_trait, fn_
 abbrev pub box : ℕ
 box = 0
 
+-- The struct `struct W<T>`. It is not fundamental and has no fields.
+abbrev pub wrapper : ℕ
+wrapper = 1
+
 -- Type parameter i.
 abbrev pub type_param : ℕ → Trees
 type_param i = leaf (param of_type i)
@@ -74,7 +78,8 @@ box_impl = record { name = 19; home = core; params = 1; header = asked clone (tr
 abbrev pub core_world : World
 core_world = record {
   crates = record { name = core; uses = [] } ∷ [];
-  structs = record { name = box; home = core; is_fundamental = true; fields = tree (raw_pointer false) (type_param 0) none ∷ [] } ∷ [];
+  structs = record { name = box; home = core; is_fundamental = true; fields = tree (raw_pointer false) (type_param 0) none ∷ [] }
+      ∷ record { name = wrapper; home = core; is_fundamental = false; fields = [] } ∷ [];
   traits = core_traits;
   impls = copy_impls 0 clone ++ box_impl ∷ copy_impls 20 copy;
 }
