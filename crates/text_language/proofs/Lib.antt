@@ -24,3 +24,4 @@ pub mod SamePrintedNames
 pub mod SamePrintedUnknowns
 pub mod SamePrintedValues
 pub mod SamePrinted
+pub mod PlainLines

@@ -1,13 +1,13 @@
 -- The grammar by tests of pieces and by tokens agree. So do the lines of a text.
 use Rattle.std.proofs.Common.{◌≡◌, ℕ, Bool, true, List, [], ◌∷◌, cond, eqb, refl, sym, ap, ◌∙◌, subst}
 use Rattle.std.specs.List.{AllZip, onto_first}
-use Rattle.text_language.specs.Promised.Syntax.{Line}
-use Rattle.text_language.specs.Syntax.{spelling}
+use Rattle.text_language.specs.Promised.Syntax.{Line, WrittenLine}
+use Rattle.text_language.specs.Syntax.{spelling, written_spelling}
 use Rattle.text_language.specs.Tokens.{pieces, tokens_of}
-use Rattle.text_language.specs.Written.{IsWritten}
+use Rattle.text_language.specs.Written.{IsWritten, IsSpelled}
 use Rattle.text_language.specs.Text.{lines_of, onto_line}
-use Rattle.text_language.specs.Promised.Grammar.{PieceTests, pieces_of, BytesSay, text_lines}
-use Rattle.text_language.proofs.SameGrammarTests.{tests_of, line-same}
+use Rattle.text_language.specs.Promised.Grammar.{PieceTests, pieces_of, BytesSay, BytesWrite, text_lines}
+use Rattle.text_language.proofs.SameGrammarTests.{tests_of, line-same, written-same}
 use Rattle.text_language.proofs.SameGrammarPieces.{fine, pieces-same}
 use Rattle.text_language.proofs.SameGrammarTokens.{passed-read, read-passed}
 
@@ -24,6 +24,16 @@ pub written-is-said : (line : List ℕ) (l : Line) → IsWritten line l → Byte
 unfolding tokens_of
 written-is-said line l h =
     subst (λ tests. AllPassed tests (pieces_of line)) (sym (line-same l)) (subst (λ ps. AllPassed (tests_of (spelling l)) ps) (sym (pieces-same line)) (read-passed (pieces line) (fine line) (spelling l) h))
+
+pub writes-is-spelled : (line : List ℕ) (w : WrittenLine) → BytesWrite line w → IsSpelled line w
+unfolding tokens_of
+writes-is-spelled line w h =
+    passed-read (pieces line) (fine line) (written_spelling w) (subst (λ ps. AllPassed (tests_of (written_spelling w)) ps) (pieces-same line) (subst (λ tests. AllPassed tests (pieces_of line)) (written-same w) h))
+
+pub spelled-is-written : (line : List ℕ) (w : WrittenLine) → IsSpelled line w → BytesWrite line w
+unfolding tokens_of
+spelled-is-written line w h =
+    subst (λ tests. AllPassed tests (pieces_of line)) (sym (written-same w)) (subst (λ ps. AllPassed (tests_of (written_spelling w)) ps) (sym (pieces-same line)) (read-passed (pieces line) (fine line) (written_spelling w) h))
 
 onto-same : (b : ℕ) (ls : List (List ℕ)) → onto_first b ls ≡ onto_line b ls
 onto-same b [] = refl

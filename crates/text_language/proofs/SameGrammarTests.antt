@@ -7,11 +7,11 @@ use Rattle.std.specs.Str.Parse.{digits_value}
 use Rattle.std.proofs.lemmas.List.{map-append}
 use Rattle.type_terms.specs.Promised.Label.{Label}
 use Rattle.type_terms.specs.Codes.{same_label}
-use Rattle.text_language.specs.Words.{Sign, open_angle, close_angle, open_round, close_round, open_square, close_square, comma, colon, semicolon, ampersand, star, plus, exclamation, keyword_text, crate_word, uses_word, fundamental_word, struct_word, auto_word, trait_word, impl_word, for_word, where_word, prove_word, refute_word, in_word, mut_word, const_word, fn_word, dyn_word}
+use Rattle.text_language.specs.Words.{Sign, open_angle, close_angle, open_round, close_round, open_square, close_square, comma, colon, semicolon, ampersand, star, plus, exclamation, equals, open_brace, close_brace, keyword_text, crate_word, uses_word, fundamental_word, struct_word, auto_word, trait_word, impl_word, for_word, where_word, prove_word, refute_word, in_word, mut_word, const_word, fn_word, dyn_word, type_word}
 use Rattle.text_language.specs.Tokens.{Token, keyword, primitive, name, lifetime, variable, number, sign, arrow}
-use Rattle.text_language.specs.Promised.Syntax.{TypeTree, of_primitive, never_type, variable_type, named, reference_to, pointer_to, slice_of, array_of, tuple_of, fn_of, fn_to, dyn_of, number_length, name_length, variable_length, Types, no_types, and_type, Args, no_args, and_arg, Arg, lifetime_arg, number_arg, type_arg, Item, bound_item, lifetime_item, DynBounds, no_items, and_item, Params, Bound, Clause, Line, crate_line, struct_line, trait_line, impl_line, prove_line, refute_line, later_line, supers_line}
-use Rattle.text_language.specs.Syntax.{type_spelling, inputs_spelling, more_types, args_spelling, more_args, arg_spelling, item_spelling, more_items, binder_spelling, more_lifetimes, lifetime_spelling, more_names, uses_spelling, param_spellings, params_spelling, behind, in_angles, bound_spelling, clause_spelling, bounds_spelling, where_spelling, fields_spelling, spelling}
-use Rattle.text_language.specs.Promised.Grammar.{primitive_names, reserved_words, PieceTests, literal, name_with, numeral, enclosed, type_tests, types_tests, args_tests, item_tests, items_tests, params_tests, bound_tests, clause_tests, line_tests}
+use Rattle.text_language.specs.Promised.Syntax.{TypeTree, of_primitive, never_type, variable_type, named, reference_to, pointer_to, slice_of, array_of, tuple_of, fn_of, fn_to, dyn_of, number_length, name_length, variable_length, Types, no_types, and_type, Args, no_args, and_arg, Arg, lifetime_arg, number_arg, type_arg, Item, bound_item, lifetime_item, DynBounds, no_items, and_item, Params, Bound, Clause, Line, crate_line, struct_line, trait_line, impl_line, prove_line, refute_line, later_line, supers_line, Binding, WrittenBound, WrittenClause, WrittenLine, written_crate, written_struct, written_trait, written_impl, written_prove, written_refute, written_later, written_supers}
+use Rattle.text_language.specs.Syntax.{type_spelling, inputs_spelling, more_types, args_spelling, more_args, arg_spelling, item_spelling, more_items, binder_spelling, more_lifetimes, lifetime_spelling, more_names, uses_spelling, param_spellings, params_spelling, after_each, behind, in_angles, bound_spelling, clause_spelling, bounds_spelling, where_spelling, fields_spelling, spelling, arg_spellings, binding_spelling, written_bound_spelling, written_clause_spelling, in_braces, written_spelling}
+use Rattle.text_language.specs.Promised.Grammar.{primitive_names, reserved_words, PieceTests, literal, name_with, numeral, enclosed, type_tests, types_tests, args_tests, item_tests, items_tests, params_tests, bound_tests, clause_tests, line_tests, binding_tests, written_bound_tests, written_clause_tests, written_tests}
 
 abbrev pub sign_text : Sign → List ℕ
 sign_text open_angle = codes "<"
@@ -27,6 +27,9 @@ sign_text ampersand = codes "&"
 sign_text star = codes "*"
 sign_text plus = codes "+"
 sign_text exclamation = codes "!"
+sign_text equals = codes "="
+sign_text open_brace = codes "{"
+sign_text close_brace = codes "}"
 
 -- a name begins with a letter or _, and is not reserved
 abbrev pub begins_name : List ℕ → Bool
@@ -174,9 +177,9 @@ mutual
 -- ---- lines
 
 -- parts, each with the tests of its tokens
-behind-same : (s : Sign) (c : PieceTests) → c ≡ tests_of (sign s ∷ []) → (ps : List (List Token)) → flat_map (λ q. c ++ q) (map tests_of ps) ≡ tests_of (behind s ps)
-behind-same s c e [] = refl
-behind-same s c e (p ∷ ps) = joined _ _ (sign s ∷ p) (behind s ps) (joined c (tests_of p) (sign s ∷ []) p e refl) (behind-same s c e ps)
+behind-same : (k : Token) (c : PieceTests) → c ≡ tests_of (k ∷ []) → (ps : List (List Token)) → flat_map (λ q. c ++ q) (map tests_of ps) ≡ tests_of (after_each k ps)
+behind-same k c e [] = refl
+behind-same k c e (p ∷ ps) = joined _ _ (k ∷ p) (after_each k ps) (joined c (tests_of p) (k ∷ []) p e refl) (behind-same k c e ps)
 
 each-same : {A : Type 0} (f : A → PieceTests) (g : A → List Token) → ((x : A) → f x ≡ tests_of (g x)) → (xs : List A) → map f xs ≡ map tests_of (map g xs)
 each-same f g h [] = refl
@@ -184,7 +187,7 @@ each-same f g h (x ∷ xs) = ap (λ w. w ∷ map f xs) (h x) ∙ ap (λ w. tests
 
 in-angles-same : (ps : List (List Token)) → enclosed "<" "," ">" (map tests_of ps) ≡ tests_of (in_angles ps)
 in-angles-same [] = refl
-in-angles-same (p ∷ ps) = to_right (literal "<") (literal ",") (literal ">") (tests_of p) (map tests_of ps) ∙ onward (sign open_angle ∷ []) _ _ (onward p (behind comma ps ++ sign close_angle ∷ []) _ (joined _ _ (behind comma ps) (sign close_angle ∷ []) (behind-same comma (literal ",") refl ps) refl))
+in-angles-same (p ∷ ps) = to_right (literal "<") (literal ",") (literal ">") (tests_of p) (map tests_of ps) ∙ onward (sign open_angle ∷ []) _ _ (onward p (behind comma ps ++ sign close_angle ∷ []) _ (joined _ _ (behind comma ps) (sign close_angle ∷ []) (behind-same (sign comma) (literal ",") refl ps) refl))
 
 params-same : (p : Params) → params_tests p ≡ tests_of (params_spelling p)
 params-same p =
@@ -204,11 +207,11 @@ clause-same k = append_assoc (type_tests k.subject) (literal ":") (bound_tests k
 
 bounds-same : (ps : List (List Token)) → enclosed ":" "+" "" (map tests_of ps) ≡ tests_of (bounds_spelling ps)
 bounds-same [] = refl
-bounds-same (p ∷ ps) = to_right (literal ":") (literal "+") [] (tests_of p) (map tests_of ps) ∙ onward (sign colon ∷ []) _ _ (onward p (behind plus ps) _ (append-nil _ ∙ behind-same plus (literal "+") refl ps))
+bounds-same (p ∷ ps) = to_right (literal ":") (literal "+") [] (tests_of p) (map tests_of ps) ∙ onward (sign colon ∷ []) _ _ (onward p (behind plus ps) _ (append-nil _ ∙ behind-same (sign plus) (literal "+") refl ps))
 
 where-same : (ps : List (List Token)) → enclosed "where" "," "" (map tests_of ps) ≡ tests_of (where_spelling ps)
 where-same [] = refl
-where-same (p ∷ ps) = to_right (literal "where") (literal ",") [] (tests_of p) (map tests_of ps) ∙ onward (keyword where_word ∷ []) _ _ (onward p (behind comma ps) _ (append-nil _ ∙ behind-same comma (literal ",") refl ps))
+where-same (p ∷ ps) = to_right (literal "where") (literal ",") [] (tests_of p) (map tests_of ps) ∙ onward (keyword where_word ∷ []) _ _ (onward p (behind comma ps) _ (append-nil _ ∙ behind-same (sign comma) (literal ",") refl ps))
 
 uses-same : (us : List (List ℕ)) → enclosed "uses" "," "" (map (name_with "") us) ≡ tests_of (uses_spelling us)
 uses-same [] = refl
@@ -225,7 +228,7 @@ clauses-same ks = ap (enclosed "where" "," "") (each-same clause_tests clause_sp
 asked-same : (a : Clause) (bs : List Clause) → enclosed "" "," "" (map clause_tests (a ∷ bs)) ≡ tests_of (clause_spelling a ++ behind comma (map clause_spelling bs))
 asked-same a bs =
     append-nil _ ∙ joined _ _ (clause_spelling a) (behind comma (map clause_spelling bs)) (clause-same a)
-    (ap (flat_map (λ q. literal "," ++ q)) (each-same clause_tests clause_spelling clause-same bs) ∙ behind-same comma (literal ",") refl (map clause_spelling bs))
+    (ap (flat_map (λ q. literal "," ++ q)) (each-same clause_tests clause_spelling clause-same bs) ∙ behind-same (sign comma) (literal ",") refl (map clause_spelling bs))
 
 struct-same : (n : List ℕ) (ps : Params) (fs : Types) → literal "struct" ++ name_with "" n ++ params_tests ps ++ enclosed "(" "," ")" (types_tests fs) ≡ tests_of (keyword struct_word ∷ name n ∷ (params_spelling ps ++ fields_spelling fs))
 struct-same n ps fs = onward (keyword struct_word ∷ name n ∷ []) _ _ (joined _ _ (params_spelling ps) (fields_spelling fs) (params-same ps) (fields-same fs))
@@ -256,3 +259,69 @@ line-same (refute_line c ps a bs) =
     onward (keyword refute_word ∷ keyword in_word ∷ name c ∷ []) _ _ (joined _ _ (params_spelling ps) _ (params-same ps) (asked-same a bs))
 line-same (later_line n) = refl
 line-same (supers_line n) = refl
+
+-- ---- lines as they are written
+args-each-same : (args : Args) → args_tests args ≡ map tests_of (arg_spellings args)
+args-each-same no_args = refl
+args-each-same (and_arg a args) = args-cons a args ∙ ap (λ w. w ∷ args_tests args) (arg-same a) ∙ ap (λ w. tests_of (arg_spelling a) ∷ w) (args-each-same args)
+
+binding-same : (v : Binding) → binding_tests v ≡ tests_of (binding_spelling v)
+binding-same v = onward (name v.name ∷ sign equals ∷ []) (type_spelling v.value) _ (type-same v.value)
+
+written-bound-same : (b : WrittenBound) → written_bound_tests b ≡ tests_of (written_bound_spelling b)
+written-bound-same b =
+    onward (name b.bound.trait ∷ []) _ _ (ap (enclosed "<" "," ">") (ap (λ w. w ++ map binding_tests b.bindings) (args-each-same b.bound.args)
+    ∙ ap (λ w. map tests_of (arg_spellings b.bound.args) ++ w) (each-same binding_tests binding_spelling binding-same b.bindings)
+    ∙ sym (map-append tests_of (arg_spellings b.bound.args) (map binding_spelling b.bindings)))
+    ∙ in-angles-same (arg_spellings b.bound.args ++ map binding_spelling b.bindings))
+
+written-clause-same : (k : WrittenClause) → written_clause_tests k ≡ tests_of (written_clause_spelling k)
+written-clause-same k =
+    append_assoc (type_tests k.subject) (literal ":") (written_bound_tests k.bound)
+    ∙ joined _ _ (type_spelling k.subject) (sign colon ∷ written_bound_spelling k.bound) (type-same k.subject) (onward (sign colon ∷ []) (written_bound_spelling k.bound) _ (written-bound-same k.bound))
+
+in-braces-same : (ps : List (List Token)) → enclosed "{ type" "type" "}" (map tests_of ps) ≡ tests_of (in_braces ps)
+in-braces-same [] = refl
+in-braces-same (p ∷ ps) =
+    to_right (literal "{ type") (literal "type") (literal "}") (tests_of p) (map tests_of ps)
+    ∙ onward (sign open_brace ∷ keyword type_word ∷ []) _ _ (onward p (after_each (keyword type_word) ps ++ sign close_brace ∷ []) _
+    (joined _ _ (after_each (keyword type_word) ps) (sign close_brace ∷ []) (behind-same (keyword type_word) (literal "type") refl ps) refl))
+
+types-same : (ts : List (List ℕ)) → enclosed "{ type" "type" "}" (map (λ t. name_with "" t ++ literal ";") ts) ≡ tests_of (in_braces (map (λ t. name t ∷ sign semicolon ∷ []) ts))
+types-same ts =
+    ap (enclosed "{ type" "type" "}") (each-same (λ t. name_with "" t ++ literal ";") (λ t. name t ∷ sign semicolon ∷ []) (λ t. refl) ts) ∙ in-braces-same _
+
+given-same : (vs : List Binding) → enclosed "{ type" "type" "}" (map (λ v. binding_tests v ++ literal ";") vs) ≡ tests_of (in_braces (map (λ v. binding_spelling v ++ sign semicolon ∷ []) vs))
+given-same vs =
+    ap (enclosed "{ type" "type" "}")
+    (each-same (λ v. binding_tests v ++ literal ";") (λ v. binding_spelling v ++ sign semicolon ∷ []) (λ v. joined _ _ (binding_spelling v) (sign semicolon ∷ []) (binding-same v) refl) vs)
+    ∙ in-braces-same _
+
+written-where-same : (ks : List WrittenClause) → enclosed "where" "," "" (map written_clause_tests ks) ≡ tests_of (where_spelling (map written_clause_spelling ks))
+written-where-same ks = ap (enclosed "where" "," "") (each-same written_clause_tests written_clause_spelling written-clause-same ks) ∙ where-same (map written_clause_spelling ks)
+
+written-asked-same : (a : WrittenClause) (bs : List WrittenClause)
+    → enclosed "" "," "" (map written_clause_tests (a ∷ bs)) ≡ tests_of (written_clause_spelling a ++ behind comma (map written_clause_spelling bs))
+written-asked-same a bs =
+    append-nil _ ∙ joined _ _ (written_clause_spelling a) (behind comma (map written_clause_spelling bs)) (written-clause-same a)
+    (ap (flat_map (λ q. literal "," ++ q)) (each-same written_clause_tests written_clause_spelling written-clause-same bs) ∙ behind-same (sign comma) (literal ",") refl (map written_clause_spelling bs))
+
+pub written-same : (w : WrittenLine) → written_tests w ≡ tests_of (written_spelling w)
+written-same (written_crate n us) = line-same (crate_line n us)
+written-same (written_struct f n ps fs) = line-same (struct_line f n ps fs)
+written-same (written_trait f a n ps bs ts) =
+    append_assoc (line_tests (trait_line f a n ps [])) (enclosed ":" "+" "" (map written_bound_tests bs)) (enclosed "{ type" "type" "}" (map (λ t. name_with "" t ++ literal ";") ts))
+    ∙ joined _ _ (spelling (trait_line f a n ps [])) _ (line-same (trait_line f a n ps []))
+    (joined _ _ (bounds_spelling (map written_bound_spelling bs)) _
+    (ap (enclosed ":" "+" "") (each-same written_bound_tests written_bound_spelling written-bound-same bs) ∙ bounds-same (map written_bound_spelling bs)) (types-same ts))
+written-same (written_impl ps h ks) =
+    let l = impl_line ps (record { subject = h.subject; bound = h.bound.bound }) [] in
+    append_assoc (line_tests l) (enclosed "where" "," "" (map written_clause_tests ks)) (enclosed "{ type" "type" "}" (map (λ v. binding_tests v ++ literal ";") h.bound.bindings))
+    ∙ joined _ _ (spelling l) _ (line-same l) (joined _ _ (where_spelling (map written_clause_spelling ks)) _ (written-where-same ks) (given-same h.bound.bindings))
+written-same (written_prove c ps a bs ks) =
+    onward (keyword prove_word ∷ keyword in_word ∷ name c ∷ []) _ _ (append_assoc (params_tests ps) (enclosed "" "," "" (map written_clause_tests (a ∷ bs))) (enclosed "where" "," "" (map written_clause_tests ks))
+    ∙ joined _ _ (params_spelling ps) _ (params-same ps) (joined _ _ (written_clause_spelling a ++ behind comma (map written_clause_spelling bs)) (where_spelling (map written_clause_spelling ks)) (written-asked-same a bs) (written-where-same ks)))
+written-same (written_refute c ps a bs) =
+    onward (keyword refute_word ∷ keyword in_word ∷ name c ∷ []) _ _ (joined _ _ (params_spelling ps) _ (params-same ps) (written-asked-same a bs))
+written-same (written_later n) = line-same (later_line n)
+written-same (written_supers n) = line-same (supers_line n)

@@ -15,7 +15,7 @@ use Rattle.type_terms.specs.Promised.Label.{Label}
 use Rattle.type_terms.specs.Codes.{same_label}
 use Rattle.type_terms.proofs.Matching.{same-label-sound}
 use Rattle.type_terms.proofs.Applies.{same-label-itself}
-use Rattle.text_language.specs.Words.{is_word_byte, is_digit, Keyword, keyword_text, keywords, keyword_named, primitive_named, primitives, Sign, signs, crate_word, uses_word, fundamental_word, struct_word, auto_word, trait_word, impl_word, for_word, where_word, prove_word, refute_word, in_word, mut_word, const_word, fn_word, dyn_word, later_word, supers_word, open_angle, close_angle, open_round, close_round, open_square, close_square, comma, colon, semicolon, ampersand, star, plus, exclamation}
+use Rattle.text_language.specs.Words.{is_word_byte, is_digit, Keyword, keyword_text, keywords, keyword_named, primitive_named, primitives, Sign, signs, crate_word, uses_word, fundamental_word, struct_word, auto_word, trait_word, impl_word, for_word, where_word, prove_word, refute_word, in_word, mut_word, const_word, fn_word, dyn_word, later_word, supers_word, open_angle, close_angle, open_round, close_round, open_square, close_square, comma, colon, semicolon, ampersand, star, plus, exclamation, type_word, equals, open_brace, close_brace}
 use Rattle.text_language.specs.Tokens.{Token, keyword, primitive, name, lifetime, variable, number, sign, arrow, LinePiece, word, quoted, queried, pointing, byte, number_from, name_token, word_token, as_lifetime, as_variable, sign_token, in_front, tokens_from}
 use Rattle.text_language.specs.Promised.Grammar.{primitive_names, reserved_words}
 use Rattle.text_language.proofs.SameGrammarTests.{sign_text, begins_name, is_free, is_primitive, test_of, tests_of}
@@ -53,6 +53,7 @@ keyword-word mut_word = refl
 keyword-word const_word = refl
 keyword-word fn_word = refl
 keyword-word dyn_word = refl
+keyword-word type_word = refl
 
 keyword-read : (k : Keyword) → word_token (keyword_text k) ≡ Some (keyword k)
 keyword-read crate_word = refl
@@ -73,6 +74,7 @@ keyword-read mut_word = refl
 keyword-read const_word = refl
 keyword-read fn_word = refl
 keyword-read dyn_word = refl
+keyword-read type_word = refl
 
 abbrev IsSignByte : Sign → ℕ → Type 0
 IsSignByte s b = (sign_token b ≡ Some (sign s)) × (is_word_byte b ≡ false) × (eqb b 39 ≡ false) × (eqb b 63 ≡ false) × (eqb b 45 ≡ false) × (sign_text s ≡ b ∷ [])
@@ -91,6 +93,9 @@ sign-byte ampersand = (refl, refl, refl, refl, refl, refl)
 sign-byte star = (refl, refl, refl, refl, refl, refl)
 sign-byte plus = (refl, refl, refl, refl, refl, refl)
 sign-byte exclamation = (refl, refl, refl, refl, refl, refl)
+sign-byte equals = (refl, refl, refl, refl, refl, refl)
+sign-byte open_brace = (refl, refl, refl, refl, refl, refl)
+sign-byte close_brace = (refl, refl, refl, refl, refl, refl)
 
 -- what holds of each row holds where the test of a primitive type passes
 in-rows : (P : List ℕ → Label → Type 0) (l : Label) (p : List ℕ) (rows : List (List ℕ × Label)) → AllByRecursion (λ x. P x.0 x.1) rows → list_any (λ x. bytes_eq p x.0 && same_label x.1 l) rows ≡ true → P p l
@@ -400,7 +405,7 @@ sign-found b (x ∷ rows) a t e =
     ]
 
 say-byte : (b : ℕ) (t : Token) → sign_token b ≡ Some t → test_of t (b ∷ []) ≡ true
-say-byte b t e = sign-found b signs (refl, (refl, (refl, (refl, (refl, (refl, (refl, (refl, (refl, (refl, (refl, (refl, (refl, tt))))))))))))) t e
+say-byte b t e = sign-found b signs (refl, (refl, (refl, (refl, (refl, (refl, (refl, (refl, (refl, (refl, (refl, (refl, (refl, (refl, (refl, (refl, tt)))))))))))))))) t e
 
 -- ---- all pieces
 abbrev pub Passed : List Token → List (List ℕ) → Type 0

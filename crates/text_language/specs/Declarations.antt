@@ -1,5 +1,5 @@
 -- What a text declares at its beginning: the long definition of `core`.
-use Rattle.std.specs.Prelude.{ℕ, ◌+◌, false, true, List, [], ◌∷◌, ◌++◌, map, codes}
+use Rattle.std.specs.Prelude.{ℕ, ◌+◌, false, true, List, [], ◌∷◌, ◌++◌, map, zip, codes}
 use Rattle.type_terms.specs.Promised.Label.{Sort, of_type, of_const, of_lifetime, array, ref, raw_pointer, param}
 use Rattle.type_terms.specs.Promised.Trees.{none, tree, leaf}
 use Rattle.type_terms.specs.Promised.Worlds.{TraitDecl, ImplDecl, core}
@@ -7,6 +7,7 @@ use Rattle.type_terms.specs.Promised.Core.{core_world, core_traits, impls_for, s
 use Rattle.type_terms.specs.Promised.Rules.{clone, copy, asked}
 use Rattle.text_language.specs.Promised.Syntax.{Params}
 use Rattle.text_language.specs.Promised.Declarations.{NamedTrait, NamedImpl, Declarations}
+use Rattle.text_language.specs.Promised.Desugared.{wrapper_name}
 
 abbrev pub with_sort : Sort → List (List ℕ) → List (List ℕ × Sort)
 with_sort s ns = map (λ n. (n, s)) ns
@@ -61,7 +62,7 @@ copied n t =
 abbrev pub nothing_declared : Declarations
 nothing_declared = record {
   crates = record { text = codes "core"; item = record { name = core; uses = [] } } ∷ [];
-  structs = map (λ s. record { text = codes "Box"; kinds = of_type ∷ []; item = s }) core_world.structs;
+  structs = map (λ x. record { text = x.0; kinds = of_type ∷ []; item = x.1 }) (zip (codes "Box" ∷ wrapper_name ∷ []) core_world.structs);
   traits = named_traits core_trait_names core_traits;
   impls = copied 0 clone ++ record { params = type_T ∷ []; item = box_impl } ∷ copied 20 copy;
   questions = [];

@@ -11,3 +11,4 @@ pub mod LineMeanings
 pub mod Mentions
 pub mod PrintedTypes
 pub mod TextSays
+pub mod Desugared

@@ -1,8 +1,8 @@
 -- The long definition of the grammar: the tokens of each line.
 use Rattle.std.specs.Prelude.{ℕ, Bool, true, false, List, [], ◌∷◌, ◌++◌, map, Option, Some, None, if◌then◌else◌}
-use Rattle.text_language.specs.Words.{Sign, comma, open_angle, close_angle, exclamation, ampersand, star, open_square, close_square, semicolon, open_round, close_round, plus, colon, Keyword, crate_word, uses_word, fundamental_word, struct_word, auto_word, trait_word, impl_word, for_word, where_word, prove_word, refute_word, in_word, mut_word, const_word, fn_word, dyn_word, later_word, supers_word}
+use Rattle.text_language.specs.Words.{Sign, comma, open_angle, close_angle, exclamation, ampersand, star, open_square, close_square, semicolon, open_round, close_round, plus, colon, equals, open_brace, close_brace, Keyword, crate_word, uses_word, fundamental_word, struct_word, auto_word, trait_word, impl_word, for_word, where_word, prove_word, refute_word, in_word, mut_word, const_word, fn_word, dyn_word, later_word, supers_word, type_word}
 use Rattle.text_language.specs.Tokens.{Token, keyword, primitive, name, lifetime, variable, number, sign, arrow}
-use Rattle.text_language.specs.Promised.Syntax.{Length, number_length, name_length, variable_length, TypeTree, of_primitive, never_type, variable_type, named, reference_to, pointer_to, slice_of, array_of, tuple_of, fn_of, fn_to, dyn_of, Types, no_types, and_type, Args, no_args, and_arg, Arg, lifetime_arg, number_arg, type_arg, Item, bound_item, lifetime_item, DynBounds, no_items, and_item, Params, Bound, Clause, Line, crate_line, struct_line, trait_line, impl_line, prove_line, refute_line, later_line, supers_line}
+use Rattle.text_language.specs.Promised.Syntax.{Length, number_length, name_length, variable_length, TypeTree, of_primitive, never_type, variable_type, named, reference_to, pointer_to, slice_of, array_of, tuple_of, fn_of, fn_to, dyn_of, Types, no_types, and_type, Args, no_args, and_arg, Arg, lifetime_arg, number_arg, type_arg, Item, bound_item, lifetime_item, DynBounds, no_items, and_item, Params, Bound, Clause, Line, crate_line, struct_line, trait_line, impl_line, prove_line, refute_line, later_line, supers_line, Binding, WrittenBound, WrittenClause, WrittenLine, written_crate, written_struct, written_trait, written_impl, written_prove, written_refute, written_later, written_supers}
 
 -- Lifetimes, each after a comma.
 abbrev pub more_lifetimes : List (List ℕ) → List Token
@@ -112,10 +112,14 @@ uses_spelling (n ∷ ns) = keyword uses_word ∷ name n ∷ more_names ns
 abbrev pub param_spellings : Params → List (List Token)
 param_spellings p = map (λ n. lifetime n ∷ []) p.lifetimes ++ (map (λ n. name n ∷ []) p.types ++ map (λ n. keyword const_word ∷ name n ∷ []) p.consts)
 
+-- Each part after the token.
+abbrev pub after_each : Token → List (List Token) → List Token
+after_each k [] = []
+after_each k (p ∷ ps) = k ∷ (p ++ after_each k ps)
+
 -- Each part after the sign.
 abbrev pub behind : Sign → List (List Token) → List Token
-behind b [] = []
-behind b (p ∷ ps) = sign b ∷ (p ++ behind b ps)
+behind b ps = after_each (sign b) ps
 
 -- params = "<" param {"," param} ">", or nothing
 abbrev pub in_angles : List (List Token) → List Token
@@ -171,3 +175,40 @@ spelling (refute_line c ps a bs) =
     keyword refute_word ∷ keyword in_word ∷ name c ∷ (params_spelling ps ++ (clause_spelling a ++ behind comma (map clause_spelling bs)))
 spelling (later_line n) = keyword later_word ∷ name n ∷ []
 spelling (supers_line n) = keyword supers_word ∷ keyword in_word ∷ name n ∷ []
+
+-- ---- lines as they are written
+abbrev pub arg_spellings : Args → List (List Token)
+arg_spellings no_args = []
+arg_spellings (and_arg a args) = arg_spelling a ∷ arg_spellings args
+
+-- binding = name "=" type
+abbrev pub binding_spelling : Binding → List Token
+binding_spelling v = name v.name ∷ sign equals ∷ type_spelling v.value
+
+-- bound = name ["<" (arg | binding) {"," (arg | binding)} ">"]
+abbrev pub written_bound_spelling : WrittenBound → List Token
+written_bound_spelling b = name b.bound.trait ∷ in_angles (arg_spellings b.bound.args ++ map binding_spelling b.bindings)
+
+abbrev pub written_clause_spelling : WrittenClause → List Token
+written_clause_spelling k = type_spelling k.subject ++ sign colon ∷ written_bound_spelling k.bound
+
+-- `"{" "type" part {"type" part} "}"`, or nothing
+abbrev pub in_braces : List (List Token) → List Token
+in_braces [] = []
+in_braces (p ∷ ps) = sign open_brace ∷ keyword type_word ∷ (p ++ (after_each (keyword type_word) ps ++ sign close_brace ∷ []))
+
+abbrev pub written_spelling : WrittenLine → List Token
+written_spelling (written_crate n us) = spelling (crate_line n us)
+written_spelling (written_struct f n ps fs) = spelling (struct_line f n ps fs)
+written_spelling (written_trait f a n ps bs ts) =
+    spelling (trait_line f a n ps []) ++ (bounds_spelling (map written_bound_spelling bs) ++ in_braces (map (λ t. name t ∷ sign semicolon ∷ []) ts))
+written_spelling (written_impl ps h ks) =
+    spelling (impl_line ps (record { subject = h.subject; bound = h.bound.bound }) [])
+    ++ (where_spelling (map written_clause_spelling ks) ++ in_braces (map (λ v. binding_spelling v ++ sign semicolon ∷ []) h.bound.bindings))
+written_spelling (written_prove c ps a bs ks) =
+    keyword prove_word ∷ keyword in_word ∷ name c
+    ∷ (params_spelling ps ++ ((written_clause_spelling a ++ behind comma (map written_clause_spelling bs)) ++ where_spelling (map written_clause_spelling ks)))
+written_spelling (written_refute c ps a bs) =
+    keyword refute_word ∷ keyword in_word ∷ name c ∷ (params_spelling ps ++ (written_clause_spelling a ++ behind comma (map written_clause_spelling bs)))
+written_spelling (written_later n) = spelling (later_line n)
+written_spelling (written_supers n) = spelling (supers_line n)

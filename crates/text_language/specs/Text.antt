@@ -1,21 +1,33 @@
 -- The long definition of the meaning of a whole text.
-use Rattle.std.specs.Prelude.{◌≡◌, ℕ, suc, ◌<◌, ◌≤◌, true, false, List, [], ◌∷◌, length, Some, None, Result, Ok, Err, ◌==◌, if◌then◌else◌}
-use Rattle.text_language.specs.Promised.Syntax.{Line}
-use Rattle.text_language.specs.Written.{IsWritten}
+use Rattle.std.specs.Prelude.{◌≡◌, ℕ, suc, ◌<◌, ◌≤◌, min, true, false, List, [], ◌∷◌, ◌++◌, length, fold, Option, Some, None, Result, Ok, Err, ◌==◌, if◌then◌else◌}
+use Rattle.std.specs.List.{reduce}
+use Rattle.std.specs.Option.{option_or, option_to_list}
+use Rattle.text_language.specs.Promised.Syntax.{Line, WrittenLine}
+use Rattle.text_language.specs.Written.{IsSpelled}
 use Rattle.text_language.specs.Promised.Written.{is_ascii, is_blank}
 use Rattle.text_language.specs.Promised.Declarations.{Declarations}
 use Rattle.text_language.specs.Declarations.{nothing_declared}
 use Rattle.text_language.specs.Faults.{fault_of}
 use Rattle.text_language.specs.Adding.{added}
+use Rattle.text_language.specs.Promised.Desugared.{desugared, own_faults, passes_types}
 use Rattle.text_language.specs.Promised.Text.{text_limit, long_line}
+
+-- The fault of the first of the lines that has one, when each is added after the lines before it.
+abbrev pub first_of : Declarations → List Line → Option ℕ
+first_of d [] = None
+first_of d (l ∷ ls) = option_or (fault_of d l) (first_of (added d l) ls)
+
+-- The fault of the bytes of a written line.
+abbrev pub fault_written : Declarations → List ℕ → WrittenLine → Option ℕ
+fault_written d line w = if passes_types line w then Some 16 else reduce min (option_to_list (first_of d (desugared w)) ++ own_faults d w)
 
 -- ---- the meaning of a line, with the declarations of the lines before it: declarations, or the number of a fault
 pub data LineGives (d : Declarations) (line : List ℕ) : Result Declarations ℕ → Type 0 where
   other_byte : is_ascii line ≡ false → LineGives d line (Err 1)
   blank : is_ascii line ≡ true → is_blank line ≡ true → LineGives d line (Ok d)
-  unwritten : is_ascii line ≡ true → is_blank line ≡ false → ((l : Line) → IsWritten line l → ⊥) → LineGives d line (Err 2)
-  faulty : (l : Line) (n : ℕ) → is_ascii line ≡ true → is_blank line ≡ false → IsWritten line l → fault_of d l ≡ Some n → LineGives d line (Err n)
-  adds : (l : Line) → is_ascii line ≡ true → is_blank line ≡ false → IsWritten line l → fault_of d l ≡ None → LineGives d line (Ok (added d l))
+  unwritten : is_ascii line ≡ true → is_blank line ≡ false → ((w : WrittenLine) → IsSpelled line w → ⊥) → LineGives d line (Err 2)
+  faulty : (w : WrittenLine) (n : ℕ) → is_ascii line ≡ true → is_blank line ≡ false → IsSpelled line w → fault_written d line w ≡ Some n → LineGives d line (Err n)
+  adds : (w : WrittenLine) → is_ascii line ≡ true → is_blank line ≡ false → IsSpelled line w → fault_written d line w ≡ None → LineGives d line (Ok (fold added d (desugared w)))
 
 -- ---- the lines of a text, without the newline
 abbrev pub onto_line : ℕ → List (List ℕ) → List (List ℕ)

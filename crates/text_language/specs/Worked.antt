@@ -3,10 +3,13 @@ use Rattle.std.specs.Prelude.{map, filter, not, take, ◌++◌, ◌≡◌, ℕ, 
 use Rattle.type_terms.specs.Promised.Label.{Label, of_type, of_const, of_lifetime, bool, uint, adt, array, slice, dynamic, principal, auto_trait, static, value, fn_ptr, tuple, ref, param, infer, bound, str}
 use Rattle.type_terms.specs.Promised.Trees.{Trees, none, tree, leaf}
 use Rattle.type_terms.specs.Promised.Worlds.{Reference, StructDecl, TraitDecl, ImplDecl}
-use Rattle.text_language.specs.Promised.Syntax.{TypeTree, of_primitive, variable_type, named, reference_to, pointer_to, slice_of, array_of, fn_of, fn_to, dyn_of, no_types, and_type, Args, no_args, and_arg, lifetime_arg, number_arg, type_arg, bound_item, lifetime_item, no_items, and_item, number_length, name_length, never_type, Params, Bound, Clause, Line, crate_line, struct_line, trait_line, impl_line, prove_line, refute_line, later_line, supers_line}
+use Rattle.text_language.specs.Promised.Syntax.{TypeTree, of_primitive, variable_type, named, reference_to, pointer_to, slice_of, array_of, fn_of, fn_to, dyn_of, no_types, and_type, Args, no_args, and_arg, lifetime_arg, number_arg, type_arg, bound_item, lifetime_item, no_items, and_item, number_length, name_length, never_type, Params, Bound, Clause, Line, crate_line, struct_line, trait_line, impl_line, prove_line, refute_line, later_line, supers_line, Binding, WrittenBound, WrittenClause, WrittenLine, written_crate, written_struct, written_trait, written_impl, written_prove, written_refute}
+use Rattle.text_language.specs.Promised.Grammar.{BytesWrite}
+use Rattle.text_language.specs.Promised.CoreText.{core_declared}
+use Rattle.text_language.specs.Promised.Desugared.{written_says}
 use Rattle.text_language.specs.Syntax.{no_params}
 use Rattle.text_language.specs.Written.{IsWritten}
-use Rattle.text_language.specs.Promised.Declarations.{Declarations, Check, of_later, of_supers, Question, world_of}
+use Rattle.text_language.specs.Promised.Declarations.{Declarations, Check, of_later, of_supers, Question, Variable, world_of}
 use Rattle.text_language.specs.Declarations.{nothing_declared}
 use Rattle.text_language.specs.Faults.{fault_of}
 use Rattle.text_language.specs.Adding.{added}
@@ -51,7 +54,7 @@ pub record Declared : Type 0 where
 
 abbrev pub beside_core : Declarations → Declared
 beside_core d = record {
-  structs = drop 1 (world_of d).structs;
+  structs = drop 2 (world_of d).structs;
   traits = drop 9 (world_of d).traits;
   impls = drop 39 (world_of d).impls;
   questions = d.questions;
@@ -251,7 +254,7 @@ TwoSections =
     × (added_in (outcome ss nothing_declared 1)
     ≡ Some (record {
       checks = of_later 0 1 ∷ of_supers 1 ∷ of_later 1 0 ∷ [];
-      headers = (0, (1, record { trait = 9; args = tree (adt 1) T none })) ∷ (0, (1, record { trait = 9; args = tree (ref false) (tree static none T) none })) ∷ (1, (0, record { trait = 1; args = leaf str })) ∷ [];
+      headers = (0, (1, record { trait = 9; args = tree (adt 2) T none })) ∷ (0, (1, record { trait = 9; args = tree (ref false) (tree static none T) none })) ∷ (1, (0, record { trait = 1; args = leaf str })) ∷ [];
       impls = 1;
     }))
 
@@ -386,20 +389,20 @@ generic_impl =
 
 abbrev pub GenericImpl : Type 0
 GenericImpl = Declares generic_impl (record {
-  structs = record { name = 1; home = 1; is_fundamental = false; fields = [] } ∷ [];
+  structs = record { name = 2; home = 1; is_fundamental = false; fields = [] } ∷ [];
   traits = record { name = 9; home = 1; is_fundamental = false; is_auto = false; bounds = [] } ∷ [];
   impls = record {
     name = 39;
     home = 1;
     params = 1;
-    header = record { trait = 9; args = tree (adt 1) (leaf (param of_type 0)) none };
+    header = record { trait = 9; args = tree (adt 2) (leaf (param of_type 0)) none };
     clauses = record { trait = 9; args = leaf (param of_type 0) } ∷ [];
   } ∷ [];
   questions = record {
     is_refute = false;
     asker = 1;
     params = [];
-    asked = record { trait = 9; args = tree (adt 1) (tree (adt 1) (leaf (uint 0)) none) none };
+    asked = record { trait = 9; args = tree (adt 2) (tree (adt 2) (leaf (uint 0)) none) none };
     further = [];
     clauses = [];
     variables = [];
@@ -491,7 +494,7 @@ to_u8 m l o = tree (ref m) (tree l none (leaf (uint 0))) o
 abbrev pub BoundLifetimes : Type 0
 BoundLifetimes = Declares bound_lifetimes (record {
   structs = record {
-    name = 1;
+    name = 2;
     home = 1;
     is_fundamental = false;
     fields =
@@ -575,8 +578,9 @@ abbrev with_lines : List Said → Declarations → Declarations
 with_lines [] d = d
 with_lines (s ∷ ss) d = with_lines ss (added d s.1)
 
+-- All but the wrapper, whose name no line can write.
 abbrev pub CoreIsRead : Type 0
-CoreIsRead = AllSaid (core_text ++ core_impls) × (with_lines core_impls (with_lines core_text empty_core) ≡ nothing_declared)
+CoreIsRead = AllSaid (core_text ++ core_impls) × (with_lines core_impls (with_lines core_text empty_core) ≡ record nothing_declared { structs = take 1 nothing_declared.structs })
 
 -- Without lifetimes, `core` is the crate whose rules are read.
 abbrev pub CoreIsCore : Type 0
@@ -631,3 +635,147 @@ broken_headers (Ok d) = map (λ i. i.name) (filter (λ i. not (keeps_orphan_rule
 
 abbrev pub OrphanHeader : Type 0
 OrphanHeader = AllSaid orphan × (broken_headers (outcome orphan nothing_declared 1) ≡ 39 ∷ [])
+
+-- ---- lines with types of traits
+
+-- The bytes of a line, and the line as it is written.
+abbrev pub AsWritten : Type 0
+AsWritten = List ℕ × WrittenLine
+
+abbrev pub AllWritten : List AsWritten → Type 0
+AllWritten [] = Unit {0}
+AllWritten (w ∷ ws) = BytesWrite w.0 w.1 × AllWritten ws
+
+-- The meaning of lines, the first of which has number k: declarations, or the first faulty line with its fault.
+abbrev pub written_after : Result Declarations ℕ → ℕ → (Declarations → Result Declarations (ℕ × ℕ)) → Result Declarations (ℕ × ℕ)
+written_after (Ok d) k more = more d
+written_after (Err n) k more = Err (k, n)
+
+abbrev pub written_outcome : List AsWritten → Declarations → ℕ → Result Declarations (ℕ × ℕ)
+written_outcome [] d k = Ok d
+written_outcome (w ∷ ws) d k = written_after (written_says d w.0 w.1) k (λ e. written_outcome ws e (suc k))
+
+-- The lines are written in this way, and the text has this fault.
+abbrev pub IsFaultyWritten : List AsWritten → ℕ → ℕ → Type 0
+IsFaultyWritten ws k n = AllWritten ws × (written_outcome ws core_declared 1 ≡ Err (k, n))
+
+-- The lines are written in this way, and this is what they declare and ask in addition to `core`.
+abbrev pub DeclaresWritten : List AsWritten → Declared → Type 0
+DeclaresWritten ws r = AllWritten ws × (declared_in (written_outcome ws core_declared 1) ≡ Some r)
+
+abbrev binding : List ℕ → TypeTree → Binding
+binding n t = record { name = n; value = t }
+
+abbrev unbound : Bound → WrittenBound
+unbound b = record { bound = b; bindings = [] }
+
+-- `It<Item = t>`
+abbrev item_is : TypeTree → WrittenBound
+item_is t = record { bound = bare (codes "It"); bindings = binding (codes "Item") t ∷ [] }
+
+abbrev has : TypeTree → WrittenBound → WrittenClause
+has t b = record { subject = t; bound = b }
+
+abbrev vec_of : TypeTree → TypeTree
+vec_of t = named (codes "Vec") (one t)
+
+abbrev written_base : AsWritten
+written_base = (codes "crate base", written_crate (codes "base") [])
+
+abbrev written_vec : AsWritten
+written_vec = (codes "struct Vec<T>", written_struct false (codes "Vec") (of_types (codes "T" ∷ [])) no_types)
+
+abbrev with_item : AsWritten
+with_item = (codes "trait It { type Item; }", written_trait false false (codes "It") no_params [] (codes "Item" ∷ []))
+
+abbrev vec_item : AsWritten
+vec_item = (codes "impl<T> It for Vec<T> { type Item = T; }", written_impl (of_types (codes "T" ∷ [])) (has (vec_of (plain_name (codes "T"))) (item_is (plain_name (codes "T")))) [])
+
+-- The trait `It` has number 9, and its companion number 10. The impl 39 is of the trait, and the impl 40 of the companion.
+-- Each query is about the companion. `Bytes` has both among its bounds. The struct 1 is the wrapper.
+abbrev pub items_of_vectors : List AsWritten
+items_of_vectors =
+    written_base ∷ written_vec ∷ with_item ∷ vec_item
+    ∷ (codes "prove in base Vec<u8>: It<Item = ?x>", written_prove (codes "base") no_params (has (vec_of u8) (item_is (variable_type (codes "x")))) [] [])
+    ∷ (codes "refute in base Vec<u8>: It<Item = bool>", written_refute (codes "base") no_params (has (vec_of u8) (item_is (of_primitive bool))) [])
+    ∷ (codes "trait Bytes: It<Item = u8>", written_trait false false (codes "Bytes") no_params (item_is u8 ∷ []) [])
+    ∷ []
+
+abbrev pub ItemsOfVectors : Type 0
+ItemsOfVectors =
+    let self = leaf (param of_type 0) in
+    let plain : ℕ → List Reference → TraitDecl = λ n bounds. record { name = n; home = 1; is_fundamental = false; is_auto = false; bounds = bounds } in
+    let asks : Bool → Trees → List Variable → Question = λ r item vs. record {
+      is_refute = r;
+      asker = 1;
+      params = [];
+      asked = record { trait = 10; args = tree (adt 2) (leaf (uint 0)) (tree (adt 1) item none) };
+      further = [];
+      clauses = [];
+      variables = vs;
+    } in
+    DeclaresWritten items_of_vectors (record {
+      structs = record { name = 2; home = 1; is_fundamental = false; fields = [] } ∷ [];
+      traits =
+          plain 9 [] ∷ plain 10 []
+          ∷ plain 11 (record { trait = 9; args = self } ∷ record { trait = 10; args = tree (param of_type 0) none (tree (adt 1) (leaf (uint 0)) none) } ∷ []) ∷ [];
+      impls =
+          record { name = 39; home = 1; params = 1; header = record { trait = 9; args = tree (adt 2) self none }; clauses = [] }
+          ∷ record { name = 40; home = 1; params = 1; header = record { trait = 10; args = tree (adt 2) self (tree (adt 1) self none) }; clauses = [] } ∷ [];
+      questions = asks false (leaf (infer of_type 0)) (record { text = codes "x"; kind = of_type } ∷ []) ∷ asks true (leaf bool) [] ∷ [];
+    })
+
+-- One text for each fault of types: a type of which the trait knows nothing, in a bound and in an impl.
+abbrev pub unknown_bound_type : List AsWritten
+unknown_bound_type =
+    written_base ∷ with_item
+    ∷ (
+      codes "refute in base u8: It<Thing = u8>",
+      written_refute (codes "base") no_params (has u8 (record { bound = bare (codes "It"); bindings = binding (codes "Thing") u8 ∷ [] })) [],
+    ) ∷ []
+
+abbrev pub unknown_given_type : List AsWritten
+unknown_given_type =
+    written_base ∷ with_item
+    ∷ (
+      codes "impl It for u8 { type Item = u8; type Thing = u8; }",
+      written_impl no_params (has u8 (record { bound = bare (codes "It"); bindings = binding (codes "Item") u8 ∷ binding (codes "Thing") u8 ∷ [] })) [],
+    ) ∷ []
+
+-- A type that is given twice, or not at all.
+abbrev pub given_twice : List AsWritten
+given_twice =
+    written_base ∷ with_item
+    ∷ (
+      codes "impl It for u8 { type Item = u8; type Item = bool; }",
+      written_impl no_params (has u8 (record { bound = bare (codes "It"); bindings = binding (codes "Item") u8 ∷ binding (codes "Item") (of_primitive bool) ∷ [] })) [],
+    ) ∷ []
+
+abbrev pub not_given : List AsWritten
+not_given = written_base ∷ with_item ∷ (codes "impl It for u8", written_impl no_params (has u8 (unbound (bare (codes "It")))) []) ∷ []
+
+-- A type that is bound twice, that its trait has twice, or that is of an auto trait.
+abbrev pub bound_twice : List AsWritten
+bound_twice =
+    written_base ∷ with_item
+    ∷ (
+      codes "trait Bytes: It<Item = u8, Item = u8>",
+      written_trait false false (codes "Bytes") no_params (record { bound = bare (codes "It"); bindings = binding (codes "Item") u8 ∷ binding (codes "Item") u8 ∷ [] } ∷ []) [],
+    ) ∷ []
+
+abbrev pub declared_twice : List AsWritten
+declared_twice = written_base ∷ (codes "trait It { type Item; type Item; }", written_trait false false (codes "It") no_params [] (codes "Item" ∷ codes "Item" ∷ [])) ∷ []
+
+abbrev pub auto_with_type : List AsWritten
+auto_with_type = written_base ∷ (codes "auto trait It { type Item; }", written_trait false true (codes "It") no_params [] (codes "Item" ∷ [])) ∷ []
+
+-- A type of a trait with a const parameter.
+abbrev pub type_beside_const : List AsWritten
+type_beside_const =
+    written_base
+    ∷ (codes "trait It<const N> { type Item; }", written_trait false false (codes "It") (record { lifetimes = []; types = []; consts = codes "N" ∷ [] }) [] (codes "Item" ∷ [])) ∷ []
+
+abbrev pub TypeFaults : Type 0
+TypeFaults =
+    IsFaultyWritten unknown_bound_type 3 5 × IsFaultyWritten unknown_given_type 3 5 × IsFaultyWritten given_twice 3 7 × IsFaultyWritten not_given 3 7
+    × IsFaultyWritten bound_twice 3 7 × IsFaultyWritten declared_twice 2 4 × IsFaultyWritten auto_with_type 2 10 × IsFaultyWritten type_beside_const 2 7

@@ -6,8 +6,8 @@
 //! examples, by the long definitions. The others prove that the two definitions agree.
 #![tactic(auto)]
 
-ghost use Rattle.text_language.specs.Worked.{EachFault, GenericImpl, TwoKinds, TwoBounds, ManyBounds, BoundLifetimes, CoreIsCore, CoreIsRead, Depths, EmptyText, FinePoints, OrphanHeader, Printed, SectionFaults, TwoSections, ValuesPrinted};
-ghost use Rattle.text_language.specs.Agreement.{TextsSayWhatTheyGive, ValuesArePrintedAlike};
+ghost use Rattle.text_language.specs.Worked.{EachFault, GenericImpl, TwoKinds, TwoBounds, ManyBounds, BoundLifetimes, CoreIsCore, CoreIsRead, Depths, EmptyText, FinePoints, OrphanHeader, Printed, SectionFaults, TwoSections, ValuesPrinted, ItemsOfVectors, TypeFaults};
+ghost use Rattle.text_language.specs.Agreement.{PlainLinesHaveTheirFaults, PlainLinesLackTypes, PlainLinesStandForThemselves, TextsSayWhatTheyGive, ValuesArePrintedAlike};
 
 /// A text for each fault that a line can have.
 pub fn worked_faults()
@@ -51,9 +51,23 @@ pub fn worked_output()
     ensures values { ValuesPrinted }
 {}
 
+/// Texts with types of traits: what they declare and ask, and a text for each fault of such types.
+pub fn worked_types()
+    ensures declared { ItemsOfVectors }
+    ensures faults { TypeFaults }
+{}
+
 /// A text has the meaning that the long definitions give.
 pub fn texts_say_what_they_give()
     ensures { TextsSayWhatTheyGive }
+{}
+
+/// A line without types is written as before, and stands for itself. Only an impl that lacks types has a fault as a written line. Its
+/// fault is the smaller of both.
+pub fn plain_lines_stand_for_themselves()
+    ensures stand { PlainLinesStandForThemselves }
+    ensures lack { PlainLinesLackTypes }
+    ensures faults { PlainLinesHaveTheirFaults }
 {}
 
 /// The values of an answer are printed as the long definitions give them.

@@ -7,6 +7,7 @@ use Rattle.type_terms.specs.Promised.Worlds.{ImplDecl}
 use Rattle.type_terms.specs.Promised.Core.{core_world, type_param}
 use Rattle.type_terms.specs.Promised.Rules.{fn_once, asked}
 use Rattle.text_language.specs.Promised.Declarations.{Declarations, NamedImpl}
+use Rattle.text_language.specs.Promised.Desugared.{wrapper_name}
 
 -- An impl of `core` with the names of its parameters: T, or T and the const N. The impl for references, number 15 for
 -- `Clone` and 35 for `Copy`, is `impl<'a, T> Clone for &'a T`: texts have lifetimes, whereas those of `core_world` are
@@ -23,7 +24,7 @@ core_impl i =
 abbrev pub core_declared : Declarations
 core_declared = record {
   crates = map (λ c. record { text = codes "core"; item = c }) core_world.crates;
-  structs = map (λ s. record { text = codes "Box"; kinds = of_type ∷ []; item = s }) core_world.structs;
+  structs = map (λ x. record { text = x.0; kinds = of_type ∷ []; item = x.1 }) (zip (codes "Box" ∷ wrapper_name ∷ []) core_world.structs);
   traits = map (λ x. record { text = x.0; kinds = if nat_lt x.1.name fn_once then [] else of_type ∷ []; item = x.1 })
       (zip (slice_split (λ c. c == 32) (codes "Sized Clone Copy Tuple FnPtr FnOnce FnMut Fn Unsize")) core_world.traits);
   impls = map core_impl core_world.impls;

@@ -9,7 +9,7 @@ use Rattle.std.specs.Str.Parse.{digits_value}
 use Prim.Native.String.{String}
 use Rattle.type_terms.specs.Promised.Label.{Label, bool, char, str, int, uint}
 use Rattle.type_terms.specs.Codes.{same_label}
-use Rattle.text_language.specs.Promised.Syntax.{TypeTree, of_primitive, never_type, variable_type, named, reference_to, pointer_to, slice_of, array_of, tuple_of, fn_of, fn_to, dyn_of, number_length, name_length, variable_length, Types, no_types, and_type, Args, no_args, and_arg, lifetime_arg, number_arg, type_arg, Item, bound_item, lifetime_item, DynBounds, no_items, and_item, Params, Bound, Clause, Line, crate_line, struct_line, trait_line, impl_line, prove_line, refute_line, later_line, supers_line}
+use Rattle.text_language.specs.Promised.Syntax.{TypeTree, of_primitive, never_type, variable_type, named, reference_to, pointer_to, slice_of, array_of, tuple_of, fn_of, fn_to, dyn_of, number_length, name_length, variable_length, Types, no_types, and_type, Args, no_args, and_arg, lifetime_arg, number_arg, type_arg, Item, bound_item, lifetime_item, DynBounds, no_items, and_item, Params, Bound, Clause, Line, crate_line, struct_line, trait_line, impl_line, prove_line, refute_line, later_line, supers_line, Binding, WrittenBound, WrittenClause, WrittenLine, written_crate, written_struct, written_trait, written_impl, written_prove, written_refute, written_later, written_supers}
 
 -- ---- the pieces of a line
 
@@ -35,7 +35,7 @@ primitive_names = zip (pieces_of (codes "bool char str i8 i16 i32 i64 i128 isize
 -- Words that are not names.
 abbrev pub reserved_words : List (List ℕ)
 reserved_words = map (λ p. p.0) primitive_names
-    ++ pieces_of (codes "crate uses fundamental struct auto trait impl for where prove refute in later supers mut const fn dyn")
+    ++ pieces_of (codes "crate uses fundamental struct auto trait impl for where prove refute in later supers mut const fn dyn type")
 
 -- ---- tests of pieces
 
@@ -155,6 +155,44 @@ line_tests (supers_line n) = literal "supers in" ++ name_with "" n
 -- The bytes are this line: there are as many pieces as tests, and each piece passes its test.
 abbrev pub BytesSay : List ℕ → Line → Type 0
 BytesSay bytes l = AllZip (λ test piece. test piece ≡ true) (line_tests l) (pieces_of bytes)
+
+-- ---- the grammar of lines as they are written
+-- binding = name "=" type
+abbrev pub binding_tests : Binding → PieceTests
+binding_tests v = name_with "" v.name ++ literal "=" ++ type_tests v.value
+
+-- bound = name ["<" (arg | binding) {"," (arg | binding)} ">"]
+-- The bindings stand after the arguments.
+abbrev pub written_bound_tests : WrittenBound → PieceTests
+written_bound_tests b = name_with "" b.bound.trait ++ enclosed "<" "," ">" (args_tests b.bound.args ++ map binding_tests b.bindings)
+
+-- clause = type ":" bound
+abbrev pub written_clause_tests : WrittenClause → PieceTests
+written_clause_tests k = type_tests k.subject ++ literal ":" ++ written_bound_tests k.bound
+
+-- trait  = ["fundamental"] ["auto"] "trait" name [params] [":" bound {"+" bound}] ["{" "type" name ";" {"type" name ";"} "}"]
+-- impl   = "impl" [params] name ["<" arg {"," arg} ">"] "for" type ["where" clause {"," clause}]
+--          ["{" "type" binding ";" {"type" binding ";"} "}"]
+-- prove  = "prove" "in" name [params] clause {"," clause} ["where" clause {"," clause}]
+-- refute = "refute" "in" name [params] clause {"," clause}
+-- The other lines are as above.
+abbrev pub written_tests : WrittenLine → PieceTests
+written_tests (written_crate n us) = line_tests (crate_line n us)
+written_tests (written_struct f n ps fs) = line_tests (struct_line f n ps fs)
+written_tests (written_trait f a n ps bs ts) =
+    line_tests (trait_line f a n ps []) ++ enclosed ":" "+" "" (map written_bound_tests bs) ++ enclosed "{ type" "type" "}" (map (λ t. name_with "" t ++ literal ";") ts)
+written_tests (written_impl ps h ks) =
+    line_tests (impl_line ps (record { subject = h.subject; bound = h.bound.bound }) []) ++ enclosed "where" "," "" (map written_clause_tests ks)
+    ++ enclosed "{ type" "type" "}" (map (λ v. binding_tests v ++ literal ";") h.bound.bindings)
+written_tests (written_prove c ps a bs ks) =
+    literal "prove in" ++ name_with "" c ++ params_tests ps ++ enclosed "" "," "" (map written_clause_tests (a ∷ bs)) ++ enclosed "where" "," "" (map written_clause_tests ks)
+written_tests (written_refute c ps a bs) = literal "refute in" ++ name_with "" c ++ params_tests ps ++ enclosed "" "," "" (map written_clause_tests (a ∷ bs))
+written_tests (written_later n) = line_tests (later_line n)
+written_tests (written_supers n) = line_tests (supers_line n)
+
+-- The bytes are this line, as it is written.
+abbrev pub BytesWrite : List ℕ → WrittenLine → Type 0
+BytesWrite bytes w = AllZip (λ test piece. test piece ≡ true) (written_tests w) (pieces_of bytes)
 
 -- The lines of a text, without the newline.
 abbrev pub text_lines : List ℕ → List (List ℕ)

@@ -83,3 +83,33 @@ pub data Line : Type 0 where
   refute_line : (asker : List ℕ) (params : Params) (asked : Clause) (further : List Clause) → Line
   later_line : (changed : List ℕ) → Line
   supers_line : (asked : List ℕ) → Line
+
+-- ---- lines as they are written
+-- A trait may have types, as in `trait It { type Item; }`. An impl gives each of them, and a bound may say what they are,
+-- as in `It<Item = u8>`. A line without types is one of the lines above. A line with types stands for several of these.
+
+-- `name = type`: what an impl gives, or what a bound says, for a type of a trait.
+pub record Binding : Type 0 where
+  pub name : List ℕ
+  pub value : TypeTree
+
+-- A trait with its arguments, and with what is said of its types.
+pub record WrittenBound : Type 0 where
+  pub bound : Bound
+  pub bindings : List Binding
+
+-- `type: bound`. In the header of an impl, the bindings are the types that the impl gives.
+pub record WrittenClause : Type 0 where
+  pub subject : TypeTree
+  pub bound : WrittenBound
+
+-- A line as it is written.
+pub data WrittenLine : Type 0 where
+  written_crate : (name : List ℕ) (uses : List (List ℕ)) → WrittenLine
+  written_struct : (is_fundamental : Bool) (name : List ℕ) (params : Params) (fields : Types) → WrittenLine
+  written_trait : (is_fundamental is_auto : Bool) (name : List ℕ) (params : Params) (bounds : List WrittenBound) (types : List (List ℕ)) → WrittenLine
+  written_impl : (params : Params) (header : WrittenClause) (clauses : List WrittenClause) → WrittenLine
+  written_prove : (asker : List ℕ) (params : Params) (asked : WrittenClause) (further clauses : List WrittenClause) → WrittenLine
+  written_refute : (asker : List ℕ) (params : Params) (asked : WrittenClause) (further : List WrittenClause) → WrittenLine
+  written_later : (changed : List ℕ) → WrittenLine
+  written_supers : (asked : List ℕ) → WrittenLine

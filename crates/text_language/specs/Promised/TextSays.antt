@@ -1,22 +1,20 @@
 -- The meaning of a whole text: what its lines declare, one after the other.
 use Rattle.std.specs.Prelude.{◌≡◌, ℕ, suc, ◌<◌, ◌≤◌, true, false, List, [], ◌∷◌, length, Result, Ok, Err}
-use Rattle.std.specs.Option.{option_map_or}
 use Rattle.text_language.specs.Promised.Declarations.{Declarations}
-use Rattle.text_language.specs.Promised.Syntax.{Line}
+use Rattle.text_language.specs.Promised.Syntax.{WrittenLine}
 use Rattle.text_language.specs.Promised.Text.{text_limit, long_line}
 use Rattle.text_language.specs.Promised.Written.{is_ascii, is_blank}
 use Rattle.text_language.specs.Promised.CoreText.{core_declared}
-use Rattle.text_language.specs.Promised.Grammar.{BytesSay, text_lines}
-use Rattle.text_language.specs.Promised.LineFaults.{line_fault}
-use Rattle.text_language.specs.Promised.LineMeanings.{with_line}
+use Rattle.text_language.specs.Promised.Grammar.{BytesWrite, text_lines}
+use Rattle.text_language.specs.Promised.Desugared.{written_says}
 
 -- The meaning of a line, with the declarations of the lines before it: declarations, or the number of a fault. Fault 1:
 -- it has a byte that is not ASCII. Fault 2: it does not follow the grammar.
 pub data LineSays (d : Declarations) (line : List ℕ) : Result Declarations ℕ → Type 0 where
   has_other_byte : is_ascii line ≡ false → LineSays d line (Err 1)
   says_blank : is_ascii line ≡ true → is_blank line ≡ true → LineSays d line (Ok d)
-  says_no_line : is_ascii line ≡ true → is_blank line ≡ false → ((l : Line) → BytesSay line l → ⊥) → LineSays d line (Err 2)
-  says_line : (l : Line) → is_ascii line ≡ true → is_blank line ≡ false → BytesSay line l → LineSays d line (option_map_or (λ n. Err n) (line_fault d l) (Ok (with_line d l)))
+  says_no_line : is_ascii line ≡ true → is_blank line ≡ false → ((w : WrittenLine) → BytesWrite line w → ⊥) → LineSays d line (Err 2)
+  says_line : (w : WrittenLine) → is_ascii line ≡ true → is_blank line ≡ false → BytesWrite line w → LineSays d line (written_says d line w)
 
 -- The meaning of the lines, the first of which has number k: declarations, or the first faulty line with its fault.
 pub data LinesSay : Declarations → ℕ → List (List ℕ) → Result Declarations (ℕ × ℕ) → Type 0 where
