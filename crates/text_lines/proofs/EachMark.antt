@@ -1,9 +1,10 @@
 -- Each mark is read where its token stands.
-use Rattle.std.proofs.Common.{◌≡◌, List, ◌∷◌, Some, refl, ap}
+use Rattle.std.proofs.Common.{◌≡◌, List, [], ◌∷◌, Some, None, refl, ap}
 use Rattle.std.proofs.lemmas.Option.{same_Some}
-use Rattle.text_language.specs.Words.{open_angle, close_angle, open_round, close_round, comma, colon, plus, uses_word, where_word, for_word, in_word}
+use Rattle.text_language.specs.Words.{open_angle, close_angle, open_round, close_round, comma, colon, semicolon, plus, equals, open_brace, close_brace, uses_word, where_word, for_word, in_word, type_word}
 use Rattle.text_language.specs.Tokens.{Token, keyword, sign}
-use Rattle.text_lines.specs.Marks.{after_comma, after_plus, after_colon, after_open_angle, after_close_angle, after_open_round, after_close_round, after_uses, after_where, after_for, after_in}
+use Rattle.text_lines.specs.Marks.{after_comma, after_plus, after_colon, after_open_angle, after_close_angle, after_open_round, after_close_round, after_uses, after_where, after_for, after_in, after_equals, after_semicolon, after_open_brace, after_close_brace, after_type}
+use Rattle.text_lines.specs.TokenSteps.{NoPlus}
 use Rattle.text_lines.proofs.IsPart.{IsMark}
 
 comma-takes : (ts r : List Token) → after_comma ts ≡ Some r → ts ≡ sign comma ∷ r
@@ -82,3 +83,43 @@ in-takes _ r e = absurd cc
 
 pub in-mark : IsMark after_in (keyword in_word)
 in-mark = record { takes = in-takes; again = λ r. refl }
+
+equals-takes : (ts r : List Token) → after_equals ts ≡ Some r → ts ≡ sign equals ∷ r
+equals-takes (sign equals ∷ ts) r e = ap (λ (x : List Token). sign equals ∷ x) (same_Some ts r e)
+equals-takes _ r e = absurd cc
+
+pub equals-mark : IsMark after_equals (sign equals)
+equals-mark = record { takes = equals-takes; again = λ r. refl }
+
+semicolon-takes : (ts r : List Token) → after_semicolon ts ≡ Some r → ts ≡ sign semicolon ∷ r
+semicolon-takes (sign semicolon ∷ ts) r e = ap (λ (x : List Token). sign semicolon ∷ x) (same_Some ts r e)
+semicolon-takes _ r e = absurd cc
+
+pub semicolon-mark : IsMark after_semicolon (sign semicolon)
+semicolon-mark = record { takes = semicolon-takes; again = λ r. refl }
+
+open_brace-takes : (ts r : List Token) → after_open_brace ts ≡ Some r → ts ≡ sign open_brace ∷ r
+open_brace-takes (sign open_brace ∷ ts) r e = ap (λ (x : List Token). sign open_brace ∷ x) (same_Some ts r e)
+open_brace-takes _ r e = absurd cc
+
+pub open_brace-mark : IsMark after_open_brace (sign open_brace)
+open_brace-mark = record { takes = open_brace-takes; again = λ r. refl }
+
+close_brace-takes : (ts r : List Token) → after_close_brace ts ≡ Some r → ts ≡ sign close_brace ∷ r
+close_brace-takes (sign close_brace ∷ ts) r e = ap (λ (x : List Token). sign close_brace ∷ x) (same_Some ts r e)
+close_brace-takes _ r e = absurd cc
+
+pub close_brace-mark : IsMark after_close_brace (sign close_brace)
+close_brace-mark = record { takes = close_brace-takes; again = λ r. refl }
+
+type-takes : (ts r : List Token) → after_type ts ≡ Some r → ts ≡ keyword type_word ∷ r
+type-takes (keyword type_word ∷ ts) r e = ap (λ (x : List Token). keyword type_word ∷ x) (same_Some ts r e)
+type-takes _ r e = absurd cc
+
+pub type-mark : IsMark after_type (keyword type_word)
+type-mark = record { takes = type-takes; again = λ r. refl }
+
+pub no-plus : (ts : List Token) → NoPlus ts → after_plus ts ≡ None
+no-plus [] h = refl
+no-plus (sign plus ∷ ts) h = absurd h
+no-plus _ h = refl

@@ -3,9 +3,8 @@ use Rattle.std.proofs.Common.{◌≡◌, ℕ, zero, suc, ◌<◌, ◌≤◌, Boo
 use Rattle.std.specs.Prelude.{map, if◌then◌else◌}
 use Rattle.std.proofs.lemmas.Option.{same_Some}
 use Rattle.std.proofs.lemmas.List.{length-append}
-use Rattle.text_language.specs.Words.{Sign}
-use Rattle.text_language.specs.Tokens.{Token, sign}
-use Rattle.text_language.specs.Syntax.{behind}
+use Rattle.text_language.specs.Tokens.{Token}
+use Rattle.text_language.specs.Syntax.{after_each}
 use Rattle.text_lines.specs.Cells.{Cell}
 use Rattle.text_lines.specs.Statement.{all_onto, all_spans}
 use Rattle.text_lines.specs.Parts.{Progress, Part, Mark, ◌>>=◌, given, both, behind_mark, before_mark, kept, list_behind, optional, next_with, next_parts, parts_below, parts_between}
@@ -155,9 +154,9 @@ recast {T} {U} {Y} {f} {s} {o} {l} {B} {r} {i} {k} to from w spelled cells place
       ap (λ x. f (c, x ++ ts)) spells ∙ w.again c (from u) ts b ∙ ap (λ x. Some (x, (o (from u) c, ts))) places ∙ ap (λ x. Some (k u c, (x, ts))) puts;
 }
 
--- ---- at least one, with a sign between each two
-abbrev pub spell_list : {T : Type 0} → (T → List Token) → Sign → T × List T → List Token
-spell_list s g x = s x.0 ++ behind g (map s x.1)
+-- ---- at least one, with a token between each two
+abbrev pub spell_list : {T : Type 0} → (T → List Token) → Token → T × List T → List Token
+spell_list s g x = s x.0 ++ after_each g (map s x.1)
 
 abbrev pub onto_list : {T : Type 0} → (T → List Cell → List Cell) → T × List T → List Cell → List Cell
 onto_list o x c = all_onto o (x.0 ∷ x.1) c
@@ -165,16 +164,16 @@ onto_list o x c = all_onto o (x.0 ∷ x.1) c
 abbrev pub place_list : {T Y : Type 0} → (T → List Cell → List Cell) → (T → List Cell → Y) → T × List T → List Cell → List Y
 place_list o l x c = all_spans o l (x.0 ∷ x.1) c
 
-more-found : {T Y : Type 0} {s : T → List Token} {o : T → List Cell → List Cell} {l : T → List Cell → Y} {m : Mark} {g : Sign} {p q r : Progress} {y : Y} {ys : List Y} {ts : List Token} → IsMark m (sign g)
+more-found : {T Y : Type 0} {s : T → List Token} {o : T → List Cell → List Cell} {l : T → List Cell → Y} {m : Mark} {g : Token} {p q r : Progress} {y : Y} {ys : List Y} {ts : List Token} → IsMark m g
     → Found s o l p q y → m q.1 ≡ Some ts → Found (spell_list s g) (onto_list o) (place_list o l) (q.0, ts) r ys → Found (spell_list s g) (onto_list o) (place_list o l) p r (y ∷ ys)
 more-found {T} {Y} {s} {o} {l} {m} {g} {p} {q} {r} {y} {ys} {ts} mark u e n = record {
   tree = (u.tree, n.tree.0 ∷ n.tree.1);
-  tokens = u.tokens ∙ ap (λ z. s u.tree ++ z) (mark.takes q.1 ts e ∙ ap (λ z. sign g ∷ z) n.tokens) ∙ sym (append_assoc (s u.tree) (behind g (map s (n.tree.0 ∷ n.tree.1))) r.1);
+  tokens = u.tokens ∙ ap (λ z. s u.tree ++ z) (mark.takes q.1 ts e ∙ ap (λ z. g ∷ z) n.tokens) ∙ sym (append_assoc (s u.tree) (after_each g (map s (n.tree.0 ∷ n.tree.1))) r.1);
   placed = ap (λ z. z ∷ ys) u.placed ∙ ap (λ z. l u.tree p.0 ∷ z) (n.placed ∙ ap (place_list o l n.tree) u.cells);
   cells = n.cells ∙ ap (onto_list o n.tree) u.cells;
 }
 
-last-found : {T Y : Type 0} {s : T → List Token} {o : T → List Cell → List Cell} {l : T → List Cell → Y} {p q : Progress} {y : Y} (g : Sign) → Found s o l p q y → Found (spell_list s g) (onto_list o) (place_list o l) p q (y ∷ [])
+last-found : {T Y : Type 0} {s : T → List Token} {o : T → List Cell → List Cell} {l : T → List Cell → Y} {p q : Progress} {y : Y} (g : Token) → Found s o l p q y → Found (spell_list s g) (onto_list o) (place_list o l) p q (y ∷ [])
 last-found {T} {Y} {s} {o} {l} {p} {q} {y} g u = record {
   tree = (u.tree, []);
   tokens = u.tokens ∙ ap (λ z. z ++ q.1) (sym (append-nil (s u.tree)));
@@ -182,7 +181,7 @@ last-found {T} {Y} {s} {o} {l} {p} {q} {y} g u = record {
   cells = u.cells;
 }
 
-next-takes : {T Y : Type 0} {s : T → List Token} {o : T → List Cell → List Cell} {l : T → List Cell → Y} {m : Mark} {g : Sign} → IsMark m (sign g) → (more : Part (List Y))
+next-takes : {T Y : Type 0} {s : T → List Token} {o : T → List Cell → List Cell} {l : T → List Cell → Y} {m : Mark} {g : Token} → IsMark m g → (more : Part (List Y))
     → ((p q : Progress) (ys : List Y) → more p ≡ Some (ys, q) → Found (spell_list s g) (onto_list o) (place_list o l) p q ys) → (p : Progress) (x : Y × Progress) → Found s o l p x.1 x.0
     → (r : Option (List Token)) → m x.1.1 ≡ r → (q : Progress) (ys : List Y) → next_with r more x ≡ Some (ys, q) → Found (spell_list s g) (onto_list o) (place_list o l) p q ys
 next-takes {T} {Y} {s} {o} {l} {m} {g} mark more w p x u (Some ts) e q ys d =
@@ -193,15 +192,15 @@ next-takes {T} {Y} {s} {o} {l} {m} {g} mark more w p x u None e q ys d =
     let found = last-found g u in
     moved (x.0 ∷ [], x.1) (ys, q) found (same_Some (x.0 ∷ [], x.1) (ys, q) d)
 
-below-takes : {T Y : Type 0} {f : Part Y} {s : T → List Token} {o : T → List Cell → List Cell} {l : T → List Cell → Y} {B : List Token → Type 0} {m : Mark} {g : Sign} → IsPart f s o l B → IsMark m (sign g)
+below-takes : {T Y : Type 0} {f : Part Y} {s : T → List Token} {o : T → List Cell → List Cell} {l : T → List Cell → Y} {B : List Token → Type 0} {m : Mark} {g : Token} → IsPart f s o l B → IsMark m g
     → (n : ℕ) (p q : Progress) (ys : List Y) → parts_below n f m p ≡ Some (ys, q) → Found (spell_list s g) (onto_list o) (place_list o l) p q ys
 below-takes w mark zero p q ys e = absurd cc
 below-takes {T} {Y} {f} {s} {o} {l} {B} {m} {g} w mark (suc n) p q ys e =
     let a = bind-some (f p) (next_parts m (parts_below n f m)) (ys, q) e in
     next-takes mark (parts_below n f m) (below-takes w mark n) p a.0 (w.takes p a.0.1 a.0.0 a.1) (m a.0.1.1) refl q ys a.2
 
-below-again : {T Y : Type 0} {f : Part Y} {s : T → List Token} {o : T → List Cell → List Cell} {l : T → List Cell → Y} {B D : List Token → Type 0} {m : Mark} {g : Sign} → IsPart f s o l B → IsMark m (sign g)
-    → ((r : List Token) → B (sign g ∷ r)) → ((r : List Token) → D r → B r) → ((r : List Token) → D r → m r ≡ None)
+below-again : {T Y : Type 0} {f : Part Y} {s : T → List Token} {o : T → List Cell → List Cell} {l : T → List Cell → Y} {B D : List Token → Type 0} {m : Mark} {g : Token} → IsPart f s o l B → IsMark m g
+    → ((r : List Token) → B (g ∷ r)) → ((r : List Token) → D r → B r) → ((r : List Token) → D r → m r ≡ None)
     → (n : ℕ) (c : List Cell) (t : T) (us : List T) (r : List Token) → D r → length us < n → parts_below n f m (c, spell_list s g (t, us) ++ r) ≡ Some (place_list o l (t, us) c, (onto_list o (t, us) c, r))
 below-again w mark goes fits ends zero c t us r d h = let wrong : ⊥ = omega (arith, h) in absurd wrong
 below-again {T} {Y} {f} {s} {o} {l} {B} {D} {m} {g} w mark goes fits ends (suc n) c t [] r d h =
@@ -210,24 +209,24 @@ below-again {T} {Y} {f} {s} {o} {l} {B} {D} {m} {g} w mark goes fits ends (suc n
     ∙ ap (λ z. next_with z (parts_below n f m) (l t c, (o t c, r))) (ends r d)
 below-again {T} {Y} {f} {s} {o} {l} {B} {D} {m} {g} w mark goes fits ends (suc n) c t (u ∷ us) r d h =
     let rest = spell_list s g (u, us) ++ r in
-    ap (λ z. parts_below (suc n) f m (c, z)) (append_assoc (s t) (behind g (map s (u ∷ us))) r)
-    ∙ ap (λ z. z >>= next_parts m (parts_below n f m)) (w.again c t (sign g ∷ rest) (goes rest))
-    ∙ ap (λ z. next_with z (parts_below n f m) (l t c, (o t c, sign g ∷ rest))) (mark.again rest)
+    ap (λ z. parts_below (suc n) f m (c, z)) (append_assoc (s t) (after_each g (map s (u ∷ us))) r)
+    ∙ ap (λ z. z >>= next_parts m (parts_below n f m)) (w.again c t (g ∷ rest) (goes rest))
+    ∙ ap (λ z. next_with z (parts_below n f m) (l t c, (o t c, g ∷ rest))) (mark.again rest)
     ∙ ap (λ z. z >>= λ ys. Some (l t c ∷ ys.0, ys.1)) (below-again w mark goes fits ends n (o t c) u us r d (omega (arith, h)))
 
-behind-length : {T : Type 0} (s : T → List Token) (g : Sign) (us : List T) → length us ≤ length (behind g (map s us))
+behind-length : {T : Type 0} (s : T → List Token) (g : Token) (us : List T) → length us ≤ length (after_each g (map s us))
 behind-length s g [] = omega arith
-behind-length s g (u ∷ us) = let h = behind-length s g us in let e = length-append (s u) (behind g (map s us)) in omega (arith, h, e)
+behind-length s g (u ∷ us) = let h = behind-length s g us in let e = length-append (s u) (after_each g (map s us)) in omega (arith, h, e)
 
-enough : {T : Type 0} (s : T → List Token) (g : Sign) (t : T) (us : List T) (r : List Token) → length us < suc (length (spell_list s g (t, us) ++ r))
+enough : {T : Type 0} (s : T → List Token) (g : Token) (t : T) (us : List T) (r : List Token) → length us < suc (length (spell_list s g (t, us) ++ r))
 enough s g t us r =
     let h = behind-length s g us in
-    let a = length-append (s t) (behind g (map s us)) in
+    let a = length-append (s t) (after_each g (map s us)) in
     let b = length-append (spell_list s g (t, us)) r in
     omega (arith, h, a, b)
 
-pub list-part : {T Y : Type 0} {f : Part Y} {s : T → List Token} {o : T → List Cell → List Cell} {l : T → List Cell → Y} {B D : List Token → Type 0} {m : Mark} {g : Sign} → IsPart f s o l B → IsMark m (sign g)
-    → ((r : List Token) → B (sign g ∷ r)) → ((r : List Token) → D r → B r) → ((r : List Token) → D r → m r ≡ None)
+pub list-part : {T Y : Type 0} {f : Part Y} {s : T → List Token} {o : T → List Cell → List Cell} {l : T → List Cell → Y} {B D : List Token → Type 0} {m : Mark} {g : Token} → IsPart f s o l B → IsMark m g
+    → ((r : List Token) → B (g ∷ r)) → ((r : List Token) → D r → B r) → ((r : List Token) → D r → m r ≡ None)
     → IsPart (parts_between f m) (spell_list s g) (onto_list o) (place_list o l) D
 unfolding parts_between
 list-part {T} {Y} {f} {s} {o} {l} {B} {D} {m} {g} w mark goes fits ends = record {

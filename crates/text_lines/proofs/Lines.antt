@@ -3,10 +3,9 @@ use Rattle.std.proofs.Common.{◌≡◌, ℕ, Bool, true, false, List, [], ◌�
 use Rattle.std.specs.Prelude.{IfOk, IsErrOf, if◌then◌else◌}
 use Rattle.std.proofs.lemmas.Option.{same_Some}
 use Rattle.text_language.specs.Words.{crate_word, fundamental_word, struct_word, auto_word, trait_word, impl_word, for_word, prove_word, refute_word, later_word, supers_word, in_word}
-use Rattle.text_language.specs.Tokens.{Token, keyword, tokens_of}
+use Rattle.text_language.specs.Tokens.{Token, keyword}
 use Rattle.text_language.specs.Promised.Syntax.{Types, no_types, and_type, Params, Bound, Clause, Line, crate_line, struct_line, trait_line, impl_line, prove_line, refute_line, later_line, supers_line}
 use Rattle.text_language.specs.Syntax.{type_spelling, bound_spelling, clause_spelling, uses_spelling, params_spelling, fields_spelling, spelling}
-use Rattle.text_language.specs.Written.{IsWritten}
 use Rattle.text_lines.specs.Marks.{after_open_angle, is_nil}
 use Rattle.text_lines.specs.TokenSteps.{NoAngle}
 use Rattle.text_lines.specs.declared.line_error.LineError.{LineError}
@@ -14,8 +13,8 @@ use Rattle.text_lines.specs.declared.line_error.LineError.TheVariants as errors
 use Rattle.text_lines.specs.Cells.{Cell}
 use Rattle.text_lines.specs.Follows.{IsCompleteType}
 use Rattle.text_lines.specs.Statement.{Statement, crate_statement, struct_statement, trait_statement, impl_statement, prove_statement, refute_statement, later_statement, supers_statement, param_list, bound_onto, bound_span, clause_onto, clause_spans, header_onto, header_spans, all_onto, all_spans, line_cells, line_statement}
-use Rattle.text_lines.specs.Parts.{Progress, ◌>>=◌, crate_at, struct_at, trait_at, impl_at, prove_at, refute_at, later_at, supers_at, auto_front, fundamental_front, statement_front, statement_at, line_at, statement_in}
-use Rattle.text_lines.specs.Lines.{ReadsLine, SaysLine}
+use Rattle.text_lines.specs.Parts.{Progress, ◌>>=◌, crate_at, struct_at, trait_at, impl_at, prove_at, refute_at, later_at, supers_at, auto_front, fundamental_front, statement_front, statement_at, line_at}
+use Rattle.text_lines.specs.Lines.{ReadsLine, SpellsLine}
 use Rattle.text_lines.specs.Steps.{GivesAlone}
 use Rattle.text_lines.specs.Views.{read_of}
 use Rattle.text_lines.specs.declared.statement.LineRead.{LineRead}
@@ -212,7 +211,7 @@ front-takes (keyword later_word ∷ ts) q y e = later-takes ts q y e
 front-takes (keyword supers_word ∷ ts) q y e = supers-takes ts q y e
 front-takes _ q y e = absurd cc
 
-nil-only : (ts : List Token) → is_nil ts ≡ true → ts ≡ []
+pub nil-only : (ts : List Token) → is_nil ts ≡ true → ts ≡ []
 nil-only [] e = refl
 nil-only (t ∷ ts) e = absurd cc
 
@@ -248,30 +247,19 @@ line-again l =
     ap (λ z. statement_front [] z >>= λ s. if is_nil s.1.1 then Some (s.0, s.1.0) else None) (sym (append-nil (spelling l)))
     ∙ ap (λ z. z >>= λ s. if is_nil s.1.1 then Some (s.0, s.1.0) else None) (front-again l)
 
--- ---- bytes
-written-takes : (line : List ℕ) (x : Statement × List Cell) → statement_in line ≡ Some x → (l : Line) × IsWritten line l × (x.0 ≡ line_statement l) × (x.1 ≡ line_cells l)
-unfolding statement_in
-written-takes line x e =
-    let a = bind-some (tokens_of line) line_at x e in
-    let n = line-takes a.0 x a.2 in
-    (n.0, a.1 ∙ ap Some n.1, n.2, n.3)
+-- ---- tokens
+pub tokens-found : (ts : List Token) (r : Result LineRead LineError) → GivesAlone read_of r (line_at ts) → IfOk r (λ x. SpellsLine ts x)
+tokens-found ts (Ok x) g = let n = line-takes ts (read_of x) g in (n.0, n.1, (n.2, n.3))
+tokens-found ts (Err e) g = tt
 
-written-again : (line : List ℕ) (l : Line) → IsWritten line l → statement_in line ≡ Some (line_statement l, line_cells l)
-unfolding statement_in
-written-again line l w = ap (λ ts. ts >>= line_at) w ∙ line-again l
-
-pub is-found : (line : List ℕ) (r : Result LineRead LineError) → GivesAlone read_of r (statement_in line) → IfOk r (λ x. SaysLine line x)
-is-found line (Ok x) g = let n = written-takes line (read_of x) g in (n.0, n.1, (n.2, n.3))
-is-found line (Err e) g = tt
-
-pub is-only : (line : List ℕ) (r : Result LineRead LineError) → GivesAlone read_of r (statement_in line) → (l : Line) → IsWritten line l → IfOk r (λ x. ReadsLine l x)
-is-only line (Ok x) g l w =
-    let s : read_of x ≡ (line_statement l, line_cells l) = same_Some (read_of x) (line_statement l, line_cells l) (sym g ∙ written-again line l w) in
+pub tokens-only : (ts : List Token) (r : Result LineRead LineError) → GivesAlone read_of r (line_at ts) → (l : Line) → ts ≡ spelling l → IfOk r (λ x. ReadsLine l x)
+tokens-only ts (Ok x) g l e =
+    let s : read_of x ≡ (line_statement l, line_cells l) = same_Some (read_of x) (line_statement l, line_cells l) (sym g ∙ ap line_at e ∙ line-again l) in
     (ap (λ (z : Statement × List Cell). z.0) s, ap (λ (z : Statement × List Cell). z.1) s)
-is-only line (Err e) g l w = tt
+tokens-only ts (Err e) g l w = tt
 
-pub is-refused : (line : List ℕ) (r : Result LineRead LineError) → GivesAlone read_of r (statement_in line) → IsErrOf r errors.Syntax → (l : Line) → IsWritten line l → ⊥
-is-refused line r g e l w =
-    let none : statement_in line ≡ None = subst (λ x. GivesAlone read_of x (statement_in line)) e g in
-    let some = written-again line l w in
+pub tokens-refused : (ts : List Token) (r : Result LineRead LineError) → GivesAlone read_of r (line_at ts) → IsErrOf r errors.Syntax → (l : Line) → ts ≡ spelling l → ⊥
+tokens-refused ts r g e l w =
+    let none : line_at ts ≡ None = subst (λ x. GivesAlone read_of x (line_at ts)) e g in
+    let some = ap line_at w ∙ line-again l in
     absurd cc

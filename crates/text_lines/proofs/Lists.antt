@@ -30,7 +30,7 @@ names-spelled : (ns : List (List ℕ)) → behind comma (map name_spelling ns) �
 names-spelled [] = refl
 names-spelled (n ∷ ns) = ap (λ x. sign comma ∷ (name_spelling n ++ x)) (names-spelled ns)
 
-uses-spelled : (ns : List (List ℕ)) → spell_optional (keyword uses_word) (spell_list name_spelling comma) ns ≡ uses_spelling ns
+uses-spelled : (ns : List (List ℕ)) → spell_optional (keyword uses_word) (spell_list name_spelling (sign comma)) ns ≡ uses_spelling ns
 uses-spelled [] = refl
 uses-spelled (n ∷ ns) = ap (λ x. keyword uses_word ∷ (name_spelling n ++ x)) (names-spelled ns)
 
@@ -63,7 +63,7 @@ more-spelled [] = refl
 more-spelled (t ∷ ts) = ap (λ x. sign comma ∷ x) (append_assoc (type_spelling t) (behind comma (map type_spelling ts)) (sign close_round ∷ []) ∙ ap (λ x. type_spelling t ++ x) (more-spelled ts))
 
 abbrev closed : TypeTree × List TypeTree → List Token
-closed x = spell_list type_spelling comma x ++ sign close_round ∷ []
+closed x = spell_list type_spelling (sign comma) x ++ sign close_round ∷ []
 
 fields-spelled : (ts : List TypeTree) → spell_optional (sign open_round) closed ts ≡ fields_spelling (types_made ts)
 unfolding types_made
@@ -91,7 +91,7 @@ fields-part =
     list-made
 
 -- ---- supertraits
-supers-spelled : (bs : List Bound) → spell_optional (sign colon) (spell_list bound_spelling plus) bs ≡ bounds_spelling (map bound_spelling bs)
+supers-spelled : (bs : List Bound) → spell_optional (sign colon) (spell_list bound_spelling (sign plus)) bs ≡ bounds_spelling (map bound_spelling bs)
 supers-spelled [] = refl
 supers-spelled (b ∷ bs) = refl
 
@@ -109,7 +109,7 @@ bounds-part =
 abbrev pub further_spelling : List Clause → List Token
 further_spelling bs = behind comma (map clause_spelling bs)
 
-further-spelled : (bs : List Clause) → spell_optional (sign comma) (spell_list clause_spelling comma) bs ≡ further_spelling bs
+further-spelled : (bs : List Clause) → spell_optional (sign comma) (spell_list clause_spelling (sign comma)) bs ≡ further_spelling bs
 further-spelled [] = refl
 further-spelled (b ∷ bs) = refl
 
@@ -125,7 +125,7 @@ further-part =
     further-spelled (λ bs c. refl) (λ bs c. refl) (λ bs. refl)
 
 -- ---- where-clauses
-clauses-spelled : (ks : List Clause) → spell_optional (keyword where_word) (spell_list clause_spelling comma) ks ≡ where_spelling (map clause_spelling ks)
+clauses-spelled : (ks : List Clause) → spell_optional (keyword where_word) (spell_list clause_spelling (sign comma)) ks ≡ where_spelling (map clause_spelling ks)
 clauses-spelled [] = refl
 clauses-spelled (k ∷ ks) = refl
 

@@ -1,29 +1,29 @@
 -- A text gives one thing.
-use Rattle.std.proofs.Common.{◌≡◌, ℕ, suc, List, Option, Some, None, Result, Ok, Err, refl, sym, ap, ◌∙◌, subst, arith}
+use Rattle.std.proofs.Common.{◌≡◌, ℕ, suc, List, fold, Option, Some, None, Result, Ok, Err, refl, sym, ap, ◌∙◌, subst, arith}
 use Rattle.std.proofs.lemmas.Option.{same_Some}
-use Rattle.text_language.specs.Promised.Syntax.{Line}
-use Rattle.text_language.specs.Syntax.{spelling}
+use Rattle.text_language.specs.Promised.Syntax.{WrittenLine}
+use Rattle.text_language.specs.Promised.Desugared.{desugared}
+use Rattle.text_language.specs.Syntax.{written_spelling}
 use Rattle.text_language.specs.Promised.Declarations.{Declarations}
 use Rattle.text_language.specs.Declarations.{nothing_declared}
-use Rattle.text_language.specs.Faults.{fault_of}
 use Rattle.text_language.specs.Adding.{added}
-use Rattle.text_language.specs.Written.{IsWritten}
-use Rattle.text_language.specs.Text.{LineGives, other_byte, blank, unwritten, faulty, adds, LinesGive, ends, fails, goes_on, lines_of, too_long, fits}
+use Rattle.text_language.specs.Written.{IsSpelled}
+use Rattle.text_language.specs.Text.{LineGives, other_byte, blank, unwritten, faulty, adds, LinesGive, ends, fails, goes_on, lines_of, too_long, fits, fault_written}
 use Rattle.text_lines.specs.Grammar.{OneOutcome}
-use Rattle.text_lines.proofs.LineAgain.{one_line}
+use Rattle.text_lines.proofs.OneWritten.{one_written}
 
 -- what is written is one line
-written-once : (line : List ℕ) (l m : Line) → IsWritten line l → IsWritten line m → l ≡ m
-written-once line l m w v = one_line l m (same_Some (spelling l) (spelling m) (sym w ∙ v))
+written-once : (line : List ℕ) (l m : WrittenLine) → IsSpelled line l → IsSpelled line m → l ≡ m
+written-once line l m w v = one_written l m (same_Some (written_spelling l) (written_spelling m) (sym w ∙ v))
 
-judged : Declarations → Line → Option ℕ → Result Declarations ℕ
-judged d l None = Ok (added d l)
+judged : Declarations → WrittenLine → Option ℕ → Result Declarations ℕ
+judged d l None = Ok (fold added d (desugared l))
 judged d l (Some n) = Err n
 
 -- two judgements of one line are equal
-judged-once : (d : Declarations) (line : List ℕ) (l m : Line) (o p : Option ℕ) → IsWritten line l → IsWritten line m → fault_of d l ≡ o → fault_of d m ≡ p → judged d l o ≡ judged d m p
+judged-once : (d : Declarations) (line : List ℕ) (l m : WrittenLine) (o p : Option ℕ) → IsSpelled line l → IsSpelled line m → fault_written d line l ≡ o → fault_written d line m ≡ p → judged d l o ≡ judged d m p
 judged-once d line l m o p w v e f =
-    ap (judged d l) (sym e) ∙ ap (λ x. judged d x (fault_of d x)) (written-once line l m w v) ∙ ap (judged d m) f
+    ap (judged d l) (sym e) ∙ ap (λ x. judged d x (fault_written d line x)) (written-once line l m w v) ∙ ap (judged d m) f
 
 line-once : (d : Declarations) (line : List ℕ) (r s : Result Declarations ℕ) → LineGives d line r → LineGives d line s → r ≡ s
 unfolding judged

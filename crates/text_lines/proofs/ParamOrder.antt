@@ -9,15 +9,14 @@ use Rattle.text_language.specs.Syntax.{behind, in_angles, params_spelling}
 use Rattle.text_lines.specs.Marks.{after_comma, after_open_angle}
 use Rattle.text_lines.specs.Cells.{Cell}
 use Rattle.text_lines.specs.Statement.{Param, lifetime_param, type_param, const_param, param_list}
+use Rattle.text_lines.specs.LineLists.{param_tokens}
 use Rattle.text_lines.specs.Parts.{param_front, param_at, is_ordered_from, params_at}
 use Rattle.text_lines.proofs.IsPart.{Found, IsPart, Any, bind-some, moved, before-part, kept-part, recast, spell_list, list-part, spell_optional, optional-part}
 use Rattle.text_lines.proofs.EachMark.{comma-mark, open_angle-mark, close_angle-mark}
 use Rattle.text_lines.proofs.Types.{no_cells, itself, cells-kept, places-same}
 
 abbrev pub param_spelling : Param → List Token
-param_spelling (lifetime_param n) = lifetime n ∷ []
-param_spelling (type_param n) = name n ∷ []
-param_spelling (const_param n) = keyword const_word ∷ name n ∷ []
+param_spelling p = param_tokens p
 
 front-takes : (ts : List Token) (x : Param × List Token) → param_front ts ≡ Some x → ts ≡ param_spelling x.0 ++ x.1
 front-takes (lifetime n ∷ ts) x e = ap (λ (y : Param × List Token). param_spelling y.0 ++ y.1) (same_Some (lifetime_param n, ts) x e)
@@ -85,12 +84,12 @@ types-spelled : (ts cs : List (List ℕ)) → map param_spelling (map type_param
 types-spelled [] cs = consts-spelled cs
 types-spelled (t ∷ ts) cs = ap (λ x. (name t ∷ []) ∷ x) (types-spelled ts cs)
 
-list-spelled : (ls ts cs : List (List ℕ)) → map param_spelling (map lifetime_param ls ++ (map type_param ts ++ map const_param cs)) ≡ map (λ n. lifetime n ∷ []) ls ++ (map (λ n. name n ∷ []) ts ++ map (λ n. keyword const_word ∷ name n ∷ []) cs)
+pub list-spelled : (ls ts cs : List (List ℕ)) → map param_spelling (map lifetime_param ls ++ (map type_param ts ++ map const_param cs)) ≡ map (λ n. lifetime n ∷ []) ls ++ (map (λ n. name n ∷ []) ts ++ map (λ n. keyword const_word ∷ name n ∷ []) cs)
 list-spelled [] ts cs = types-spelled ts cs
 list-spelled (l ∷ ls) ts cs = ap (λ x. (lifetime l ∷ []) ∷ x) (list-spelled ls ts cs)
 
 abbrev closed : Param × List Param → List Token
-closed x = spell_list param_spelling comma x ++ sign close_angle ∷ []
+closed x = spell_list param_spelling (sign comma) x ++ sign close_angle ∷ []
 
 angles-spelled : (ps : List Param) → spell_optional (sign open_angle) closed ps ≡ in_angles (map param_spelling ps)
 angles-spelled [] = refl

@@ -1,7 +1,7 @@
 -- Reading the parts of a line from left to right. None of this is promised: it describes the methods of the reader, one by one.
 use Rattle.std.specs.Prelude.{ℕ, zero, suc, Bool, true, false, ◌&&◌, List, [], ◌∷◌, length, Option, Some, None, nat_le, if◌then◌else◌}
 use Rattle.text_language.specs.Words.{crate_word, fundamental_word, struct_word, auto_word, trait_word, impl_word, prove_word, refute_word, later_word, supers_word, const_word}
-use Rattle.text_language.specs.Tokens.{Token, keyword, name, lifetime, tokens_of}
+use Rattle.text_language.specs.Tokens.{Token, keyword, name, lifetime}
 use Rattle.text_lines.specs.Marks.{after_comma, after_plus, after_colon, after_open_angle, after_close_angle, after_open_round, after_close_round, after_uses, after_where, after_for, after_in, name_front, is_name, is_nil}
 use Rattle.text_lines.specs.Cells.{Cell}
 use Rattle.text_lines.specs.TypeReading.{type_read}
@@ -177,6 +177,3 @@ statement_at p = statement_front p.0 p.1
 -- the statement of the tokens of a line, and the cells of its types
 unfoldable pub line_at : List Token → Option (Statement × List Cell)
 line_at ts = statement_at ([], ts) >>= λ s. if is_nil s.1.1 then Some (s.0, s.1.0) else None
-
-unfoldable pub statement_in : List ℕ → Option (Statement × List Cell)
-statement_in line = tokens_of line >>= line_at

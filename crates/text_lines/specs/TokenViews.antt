@@ -33,6 +33,7 @@ keyword_of keywords.Mut = words.mut_word
 keyword_of keywords.Const = words.const_word
 keyword_of keywords.Fn = words.fn_word
 keyword_of keywords.Dyn = words.dyn_word
+keyword_of keywords.Type = words.type_word
 
 -- the label of a primitive type
 abbrev pub primitive_label : Primitive → Label
@@ -67,6 +68,9 @@ sign_of signs.Ampersand = words.ampersand
 sign_of signs.Star = words.star
 sign_of signs.Plus = words.plus
 sign_of signs.Exclamation = words.exclamation
+sign_of signs.Equals = words.equals
+sign_of signs.OpenBrace = words.open_brace
+sign_of signs.CloseBrace = words.close_brace
 
 -- A token. Names and numbers are the bytes of the line.
 abbrev pub token_of : Token → token.Token
@@ -86,3 +90,7 @@ tokens_in ts = map token_of ts
 -- the bytes of a name that is borrowed from the line
 abbrev pub text_of : Bor (List ℕ) → List ℕ
 text_of n = n.now
+
+-- tokens that are borrowed from those of the line
+abbrev pub slice_tokens : Bor (List Token) → List token.Token
+slice_tokens ts = tokens_in ts.now

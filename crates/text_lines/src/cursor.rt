@@ -3,8 +3,8 @@ ghost use Rattle.std.specs.Prelude.{◌≡◌, [], ◌∷◌, MatchOption, drop,
 ghost use Rattle.std.specs.Option.{option_map};
 ghost use Rattle.text_language.specs.Words.{open_angle, close_round, plus, mut_word};
 ghost use Rattle.text_language.specs.Tokens.{keyword, sign, arrow};
-ghost use Rattle.text_lines.specs.TokenViews.{text_of};
-ghost use Rattle.text_lines.specs.Marks.{Passed, PassesMark, Takes, after_comma, after_colon, after_open_round, after_close_round, after_close_angle, after_uses, after_where, after_for, after_in, name_front, is_name, is_nil};
+ghost use Rattle.text_lines.specs.TokenViews.{slice_tokens, text_of};
+ghost use Rattle.text_lines.specs.Marks.{Passed, PassesMark, Takes, after_comma, after_colon, after_open_round, after_close_round, after_close_angle, after_uses, after_where, after_for, after_in, after_equals, after_semicolon, after_open_brace, after_close_brace, after_type, name_front, is_name, is_nil, is_equals, is_binding, taken, TookLone};
 ghost use Rattle.text_lines.specs.TokenSteps.{Took, TookLifetime, NoAngle, NoRound, NoPlus, NoArrow, NoMut};
 
 use crate::line_error::LineError;
@@ -242,6 +242,112 @@ impl<'t, 'a> Cursor<'t, 'a> {
     {
         match self.next() {
             Some(Token::Keyword(Keyword::In)) => Ok(()),
+            _ => Err(LineError::Syntax),
+        }
+    }
+
+    /// The tokens that are not read.
+    #[tactic(auto, using(crate::proofs::Ends::unread_is))]
+    fn unread(&self) -> &'t [Token<'a>]
+        ensures { tokens_in result.now ≡ self.now }
+    {
+        self.tokens.split_at(self.at.min(self.tokens.len())).1
+    }
+
+    /// The tokens that are not read here, up to those that are not read at the later cursor.
+    #[tactic(auto, using(crate::proofs::Ends::before_is))]
+    pub fn before(&self, later: &Cursor<'t, 'a>) -> &'t [Token<'a>]
+        ensures { tokens_in result.now ≡ taken self.now later.now }
+    {
+        let rest = self.unread();
+        let count = rest.len().saturating_sub(later.unread().len());
+        rest.split_at(count).0
+    }
+
+    /// Reads a lifetime or a number, if one is next.
+    pub fn take_lone(&mut self) -> Option<&'t [Token<'a>]>
+        ensures { TookLone (option_map slice_tokens result) self.old self.new }
+    {
+        let first = self.rest();
+        match self.peek() {
+            Some(Token::Lifetime(_)) | Some(Token::Number(_)) => {
+                self.skip_if(true);
+                Some(first.before(self))
+            }
+            _ => None,
+        }
+    }
+
+    /// Whether `=` is next. It is not read.
+    fn is_equals(&self) -> bool
+        ensures { result ≡ is_equals self.now }
+    {
+        matches!(self.peek(), Some(Token::Sign(Sign::Equals)))
+    }
+
+    /// Whether a name and `=` are next. They are not read.
+    pub fn is_binding(&self) -> bool
+        ensures { result ≡ is_binding self.now }
+    {
+        let mut later = self.rest();
+        match later.next() {
+            Some(Token::Name(_)) => later.is_equals(),
+            _ => false,
+        }
+    }
+
+    /// Reads `{`, if it is next.
+    pub fn take_open_brace(&mut self) -> bool
+        ensures { Passed result (after_open_brace self.old) self.old self.new }
+    {
+        let is_next = matches!(self.peek(), Some(Token::Sign(Sign::OpenBrace)));
+        self.skip_if(is_next)
+    }
+
+    /// Reads `type`, if it is next.
+    pub fn take_type(&mut self) -> bool
+        ensures { Passed result (after_type self.old) self.old self.new }
+    {
+        let is_next = matches!(self.peek(), Some(Token::Keyword(Keyword::Type)));
+        self.skip_if(is_next)
+    }
+
+    /// Reads `=`. Fails unless it is next.
+    pub fn expect_equals(&mut self) -> Result<(), LineError>
+        ensures { PassesMark result (after_equals self.old) self.new }
+    {
+        match self.next() {
+            Some(Token::Sign(Sign::Equals)) => Ok(()),
+            _ => Err(LineError::Syntax),
+        }
+    }
+
+    /// Reads `;`. Fails unless it is next.
+    pub fn expect_semicolon(&mut self) -> Result<(), LineError>
+        ensures { PassesMark result (after_semicolon self.old) self.new }
+    {
+        match self.next() {
+            Some(Token::Sign(Sign::Semicolon)) => Ok(()),
+            _ => Err(LineError::Syntax),
+        }
+    }
+
+    /// Reads `}`. Fails unless it is next.
+    pub fn expect_close_brace(&mut self) -> Result<(), LineError>
+        ensures { PassesMark result (after_close_brace self.old) self.new }
+    {
+        match self.next() {
+            Some(Token::Sign(Sign::CloseBrace)) => Ok(()),
+            _ => Err(LineError::Syntax),
+        }
+    }
+
+    /// Reads `type`. Fails unless it is next.
+    pub fn expect_type(&mut self) -> Result<(), LineError>
+        ensures { PassesMark result (after_type self.old) self.new }
+    {
+        match self.next() {
+            Some(Token::Keyword(Keyword::Type)) => Ok(()),
             _ => Err(LineError::Syntax),
         }
     }

@@ -1,19 +1,22 @@
 //! A whole line.
-ghost use Rattle.std.specs.Prelude.{◌≡◌, ◌==◌, length, take_while, IfOk, IsErrOf};
+ghost use Rattle.std.specs.Prelude.{◌≡◌, ◌==◌, ◌||◌, length, take_while, IfOk, IsErrOf};
+ghost use Rattle.std.specs.List.{list_any};
 ghost use Rattle.text_language.specs.Promised.Syntax.{Line};
-ghost use Rattle.text_language.specs.Written.{IsWritten};
-ghost use Rattle.text_language.specs.Promised.Written.{is_ascii, is_blank};
+ghost use Rattle.text_language.specs.Promised.Written.{is_ascii, is_blank, is_overlong};
 ghost use Rattle.text_lines.specs.TokenViews.{tokens_in};
-ghost use Rattle.text_lines.specs.Lines.{ReadsLine, SaysLine};
-ghost use Rattle.text_lines.specs.Parts.{auto_front, fundamental_front, statement_at, line_at, statement_in};
+ghost use Rattle.text_language.specs.Syntax.{spelling};
+ghost use Rattle.text_lines.specs.Lines.{ReadsLine, SpellsLine};
+ghost use Rattle.text_lines.specs.Pieces.{companions_in, names_in, pieces_tokens};
+ghost use Rattle.text_lines.specs.Parts.{auto_front, fundamental_front, statement_at, line_at};
 ghost use Rattle.text_lines.specs.Steps.{Reads, GivesAlone};
 ghost use Rattle.text_lines.specs.Views.{statement_of, read_of};
 
 use crate::cursor::Cursor;
 use crate::line_error::LineError;
+use crate::line_lists::{Piece, list_tokens};
 use crate::reader::Reader;
 use crate::statement::{LineRead, Statement};
-use crate::token::{Keyword, Token, tokens};
+use crate::token::{Keyword, Token};
 use std::alloc::Global;
 
 impl<'t, 'a> Reader<'t, 'a> {
@@ -80,6 +83,22 @@ pub fn is_blank(line: &[u8]) -> bool
     rest.is_empty() || rest.starts_with(b"//")
 }
 
+/// The maximum length of a line with `=` or `{`. What it says of types is repeated for each type.
+const TYPED_LINE_LIMIT: usize = 65536;
+
+fn has_type_byte(line: &[u8]) -> bool
+    ensures { result ≡ list_any (λ b. b == 61 || b == 123) line.now }
+{
+    line.iter().any(|b| *b == b'=' || *b == b'{')
+}
+
+/// Whether a line with `=` or `{` exceeds the limit for such lines.
+pub fn is_overlong(line: &[u8]) -> bool
+    ensures { result ≡ is_overlong line.now }
+{
+    line.len() > TYPED_LINE_LIMIT && has_type_byte(line)
+}
+
 /// Room for the cells of most lines, so that the list grows for long ones alone.
 const CELLS_EXPECTED: usize = 24;
 
@@ -105,26 +124,27 @@ fn read_tokens<'a>(alloc: Global, tokens: &[Token<'a>]) -> Result<LineRead<'a>, 
     Ok(LineRead { cells, statement })
 }
 
-#[tactic(auto, unfolding(crate::specs::Parts::statement_in))]
-fn read(alloc: Global, line: &[u8]) -> Result<LineRead<'_>, LineError>
-    ensures { GivesAlone read_of result (statement_in line.now) }
+/// Reads the line that these tokens spell.
+///
+/// Fails with `Syntax` if they spell no line, and with `Memory` if memory is refused.
+pub fn line_of_tokens<'a>(alloc: Global, tokens: &[Token<'a>]) -> Result<LineRead<'a>, LineError>
+    ensures found { IfOk result (λ r. SpellsLine (tokens_in tokens.now) r) }
+    ensures only { (l : Line) → tokens_in tokens.now ≡ spelling l → IfOk result (λ r. ReadsLine l r) }
+    ensures refused { IsErrOf result LineError.Syntax → (l : Line) → tokens_in tokens.now ≡ spelling l → ⊥ }
 {
-    let Some(found) = tokens(alloc, line)? else {
-        return Err(LineError::Syntax);
-    };
-    read_tokens(alloc, &found)
+    read_tokens(alloc, tokens)
 }
 
-/// Reads a line. The names of the statement are borrowed from the bytes.
-///
-/// Fails with `Syntax` if the grammar has no such line, or if the line is blank. Fails with `Memory` if memory is refused.
-pub fn read_line(alloc: Global, line: &[u8]) -> Result<LineRead<'_>, LineError>
-    // If a line is returned, the bytes spell it.
-    ensures found { IfOk result (λ r. SaysLine line.now r) }
-    // If the bytes spell a line, it is returned, unless memory is refused.
-    ensures only { (l : Line) → IsWritten line.now l → IfOk result (λ r. ReadsLine l r) }
-    // The error is `Syntax` only if the bytes spell no line.
-    ensures refused { IsErrOf result LineError.Syntax → (l : Line) → IsWritten line.now l → ⊥ }
+/// Reads one of the lines for which a line with types stands. Companions have these names.
+pub fn line_of_list<'t, 'a>(
+    alloc: Global,
+    list: &[Piece<'t, 'a>],
+    names: &'a [Vec<u8>],
+) -> Result<LineRead<'a>, LineError>
+    requires { names_in names.now ≡ companions_in list.now }
+    ensures only { (l : Line) → pieces_tokens list.now ≡ spelling l → IfOk result (λ r. ReadsLine l r) }
+    ensures refused { IsErrOf result LineError.Syntax → (l : Line) → pieces_tokens list.now ≡ spelling l → ⊥ }
 {
-    read(alloc, line)
+    let tokens = list_tokens(alloc, list, names)?;
+    line_of_tokens(alloc, &tokens)
 }

@@ -30,6 +30,7 @@ pub enum Keyword {
     Const,
     Fn,
     Dyn,
+    Type,
 }
 
 /// A primitive type.
@@ -53,7 +54,7 @@ pub enum Primitive {
 }
 
 /// Each keyword with its word.
-const KEYWORDS: [(&[u8], Keyword); 18] = [
+const KEYWORDS: [(&[u8], Keyword); 19] = [
     (b"crate", Keyword::Crate),
     (b"uses", Keyword::Uses),
     (b"fundamental", Keyword::Fundamental),
@@ -72,6 +73,7 @@ const KEYWORDS: [(&[u8], Keyword); 18] = [
     (b"const", Keyword::Const),
     (b"fn", Keyword::Fn),
     (b"dyn", Keyword::Dyn),
+    (b"type", Keyword::Type),
 ];
 
 /// The keyword with this spelling.
@@ -157,6 +159,9 @@ fn sign_at(b: u8) -> Option<Sign>
         b'*' => Some(Sign::Star),
         b'+' => Some(Sign::Plus),
         b'!' => Some(Sign::Exclamation),
+        b'=' => Some(Sign::Equals),
+        b'{' => Some(Sign::OpenBrace),
+        b'}' => Some(Sign::CloseBrace),
         _ => None,
     }
 }
@@ -168,7 +173,7 @@ fn word_len(bytes: &[u8]) -> usize
     bytes.iter().take_while(|b| is_word_byte(**b)).count()
 }
 
-/// One of `< > ( ) [ ] , : ; & * + !`.
+/// One of `< > ( ) [ ] , : ; & * + ! = { }`.
 #[derive(Clone, Copy)]
 pub enum Sign {
     OpenAngle,
@@ -184,6 +189,9 @@ pub enum Sign {
     Star,
     Plus,
     Exclamation,
+    Equals,
+    OpenBrace,
+    CloseBrace,
 }
 
 /// A word, `'word`, `?word`, `->` or a sign. Words are borrowed from the line.
