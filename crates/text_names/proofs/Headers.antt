@@ -28,7 +28,7 @@ use Rattle.text_lines.proofs.Standing.{spans-stand}
 use Rattle.text_names.specs.Machine.{Sight, seen_items}
 use Rattle.text_names.specs.UsedNames.{names_with}
 use Rattle.text_names.proofs.UsedLaws.{types_use_names, args_use_names}
-use Rattle.text_names.specs.Header.{header_said, name_of, last_name, names_own_struct, names_in_header}
+use Rattle.text_names.specs.Header.{header_said, trait_of_impl, name_of, last_name, names_own_struct, names_in_header}
 use Rattle.text_names.specs.Params.{others_said}
 use Rattle.text_names.specs.Speaks.{Speaks}
 use Rattle.text_names.proofs.Bare.{same-items, same-params, others-of}
@@ -129,6 +129,19 @@ no-foreign d l r e k = none-foreign d l (k ∙ ap header_said e.0)
 pub no-built : (d : Declarations) (l : Line) (r : LineRead) → ReadsLine l r → None ≡ header_said (statement_of r.statement) → false ≡ implements_built_in d l
 no-built d l r e k = none-built d l (k ∙ ap header_said e.0)
 
+none-implemented : (l : Line) → None ≡ header_said (line_statement l) → None ≡ trait_of_impl l
+none-implemented (impl_line ps k ks) e = absurd (cc)
+none-implemented (crate_line n us) e = refl
+none-implemented (struct_line f n ps fs) e = refl
+none-implemented (trait_line f a n ps bs) e = refl
+none-implemented (prove_line c ps k bs ks) e = refl
+none-implemented (refute_line c ps k bs) e = refl
+none-implemented (later_line n) e = refl
+none-implemented (supers_line n) e = refl
+
+pub no-trait : (l : Line) (r : LineRead) → ReadsLine l r → None ≡ header_said (statement_of r.statement) → None ≡ trait_of_impl l
+no-trait l r e k = none-implemented l (k ∙ ap header_said e.0)
+
 -- ---- an impl of an auto trait, or of one with built-in rules alone
 own-struct : (d : Declarations) (l : Line) (t : TypeTree) → option_map_or (λ n. not (is_line_param l n) && option_map_or (is_struct_in (impl_owner d)) (known d n) false) (type_name t) false ≡ is_own_struct d l t
 own-struct d l (named n args) = refl
@@ -181,6 +194,11 @@ read-built v l r h a sp e k ea =
     let i = read-impl l r h e k in
     built-is v i.params i.header i.clauses a (subst (Speaks v.line) (e.0 ∙ ap line_statement i.is) sp) (ea ∙ last-stands (cells_in r.cells.items) (named i.header.bound.trait i.header.bound.args) h.bound i.bound)
     ∙ ap (implements_built_in v.before) (sym i.is)
+
+pub read-trait : (l : Line) (r : LineRead) (h : ClauseSpans) → ReadsLine l r → Some h ≡ header_said (statement_of r.statement) → last_name (take h.bound.end (cells_in r.cells.items)) ≡ trait_of_impl l
+read-trait l r h e k =
+    let i = read-impl l r h e k in
+    last-stands (cells_in r.cells.items) (named i.header.bound.trait i.header.bound.args) h.bound i.bound ∙ ap trait_of_impl (sym i.is)
 
 -- ---- a parameter that isn't in the header
 -- the cells but the last

@@ -1,6 +1,7 @@
 -- The header of an impl, as it is among the cells of its line.
 use Rattle.std.specs.Prelude.{ℕ, ◌-◌, Bool, false, not, ◌&&◌, List, [], length, take, drop, Option, Some, None, slice_get}
 use Rattle.std.specs.Option.{option_map_or}
+use Rattle.text_language.specs.Promised.Syntax.{Line, impl_line}
 use Rattle.text_language.specs.Promised.Declarations.{known, impl_owner}
 use Rattle.text_language.specs.Promised.Faults.{is_auto_name}
 use Rattle.text_language.specs.Faults.{is_line_param, is_struct_in}
@@ -13,6 +14,11 @@ use Rattle.text_names.specs.UsedNames.{names_with}
 abbrev pub header_said : Statement → Option ClauseSpans
 header_said (impl_statement ps h ks) = Some h
 header_said s = None
+
+-- the trait that the line is an impl of
+abbrev pub trait_of_impl : Line → Option (List ℕ)
+trait_of_impl (impl_line ps h ks) = Some h.bound.trait
+trait_of_impl _ = None
 
 abbrev pub name_of : Option Cell → Option (List ℕ)
 name_of (Some (named_cell n start)) = Some n

@@ -12,7 +12,7 @@ ghost use Rattle.text_lines.specs.Lines.{ReadsLine};
 ghost use Rattle.text_lines.specs.Views.{statement_of};
 ghost use Rattle.text_names.specs.Machine.{seen_items};
 ghost use Rattle.text_names.specs.UsedNames.{Holds, names_with};
-ghost use Rattle.text_names.specs.Header.{header_said, name_of, last_name, names_own_struct, names_foreign_auto, names_in_header};
+ghost use Rattle.text_names.specs.Header.{header_said, name_of, last_name, names_own_struct, names_foreign_auto, names_in_header, trait_of_impl};
 ghost use Rattle.text_names.specs.Speaks.{Speaks};
 
 use crate::judge_use::is_param;
@@ -148,6 +148,16 @@ pub(crate) fn implements_built_in<N: Names>(names: &N, read: &LineRead<'_>) -> b
     match impl_header(&read.statement) {
         Some(header) => is_built_in_trait(names, last_name(&read.cells, header.bound.end)),
         None => false,
+    }
+}
+
+/// The trait that the line is an impl of, by its name. `None` if the line is no impl.
+pub fn implemented_trait<'a>(read: &LineRead<'a>) -> Option<&'a [u8]>
+    ensures { (l : Line) → ReadsLine l read.now → option_map text_of result ≡ trait_of_impl l }
+{
+    match impl_header(&read.statement) {
+        Some(header) => last_name(&read.cells, header.bound.end),
+        None => None,
     }
 }
 

@@ -36,6 +36,7 @@ mod walk;
 pub use fault::FaultKind;
 pub use findings::Findings;
 pub use found_variables::each_once;
+pub use header::implemented_trait;
 pub use judge::{JudgedLine, judge_line};
 pub use judge_use::{crate_name, has_static, is_param, repeats};
 pub use line::LineFound;

@@ -60,11 +60,15 @@ with_core_impls d is = record d { impls = d.impls ++ is }
 abbrev pub with_scalar_impls : Declarations → ℕ → Declarations
 with_scalar_impls d t = with_core_impls d (map bare_impl (impls_for (length d.impls) t scalars))
 
--- `core` with its struct.
+-- `core` with its first struct.
+abbrev pub core_box : Declarations
+core_box = record core_alone { structs = take 1 nothing_declared.structs }
+
+-- `core` with its structs.
 abbrev pub core_structs : Declarations
 core_structs = record core_alone { structs = nothing_declared.structs }
 
--- `core` with its struct and its first traits.
+-- `core` with its structs and its first traits.
 abbrev pub core_traits_to : ℕ → Declarations
 core_traits_to n = record core_structs { traits = take n nothing_declared.traits }
 

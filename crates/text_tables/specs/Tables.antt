@@ -1,13 +1,13 @@
 -- The tables of a text: what they declare, and when they agree with one another.
-use Rattle.std.specs.Prelude.{◌≡◌, ℕ, suc, Bool, false, ◌||◌, List, [], ◌∷◌, ◌++◌, length, map, take, count_by, Option, Some, None, slice_get, unwrap_or, find, codes, ◌==◌}
-use Rattle.std.specs.List.{list_any}
+use Rattle.std.specs.Prelude.{◌≡◌, ℕ, suc, Bool, false, not, ◌&&◌, ◌||◌, nat_eq, List, [], ◌∷◌, ◌++◌, length, map, take, count_by, Option, Some, None, slice_get, unwrap_or, find, codes, ◌==◌}
+use Rattle.std.specs.List.{list_any, starts_with}
 use Rattle.std.specs.List.Sorted.{IsNonDecreasingBy}
 use Rattle.std.specs.Option.{option_map, option_or}
 use Rattle.std.specs.Str.{bytes_eq}
 use Rattle.std.specs.HashMap.{get_by}
 use Rattle.type_terms.specs.Promised.Worlds.{World, core, sees}
 use Rattle.text_language.specs.Promised.Declarations.{Declarations, NamedCrate, NamedStruct, NamedTrait, NamedImpl, LaterImpl, Question, Known, a_crate, world_of, last_crate, last_later}
-use Rattle.text_language.specs.Promised.Faults.{last_items}
+use Rattle.text_language.specs.Promised.Faults.{is_among, last_items}
 use Rattle.type_terms.specs.declared.CrateId.{CrateId}
 use Rattle.text_tables.specs.declared.tables.Tables.{Tables}
 use Rattle.text_tables.specs.declared.declared.ImplEntry.{ImplEntry}
@@ -86,6 +86,10 @@ item_named d n = option_or (crate_named d.crates n) (option_or (struct_named d.s
 abbrev pub number_of_crate : Known → Option ℕ
 number_of_crate (a_crate k) = Some k
 number_of_crate _ = None
+
+-- the name begins so, and is none of these
+abbrev pub has_name_besides : (front : List ℕ) (names : List (List ℕ)) → List ℕ → Bool
+has_name_besides front names n = starts_with nat_eq n front && not (is_among n names)
 
 -- ---- the view of a crate
 -- The list marks each crate that crate c sees. After its end nothing is marked.

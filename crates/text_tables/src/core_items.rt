@@ -9,7 +9,7 @@ ghost use Rattle.text_tables.specs.Made.{AreMade, ReferenceMade, ReferencesMade,
 ghost use Rattle.text_tables.specs.Parts.{new_trait};
 ghost use Rattle.text_tables.specs.Views.{sort_of_kind, reference_of, cells_of};
 ghost use Rattle.text_tables.specs.TermCells.{trees_of, joined};
-ghost use Rattle.text_tables.specs.CoreItems.{core_kinds, core_bounds, with_core_trait, core_structs, core_traits_to, HasRoom, IsInCore, with_core_impls, with_scalar_impls, impl_for, ref_impl, pointer_impl, array_impl, boxed_impl};
+ghost use Rattle.text_tables.specs.CoreItems.{core_kinds, core_bounds, with_core_trait, core_box, core_structs, core_traits_to, HasRoom, IsInCore, with_core_impls, with_scalar_impls, impl_for, ref_impl, pointer_impl, array_impl, boxed_impl};
 
 use crate::cell::{ParamKind, TermCell};
 use crate::declared::{Param, ReferenceCells};
@@ -135,7 +135,7 @@ impl Tables {
     fn add_box(&mut self) -> Result<(), AllocError>
         requires consistent { IsConsistent self.old }
         requires before { declared self.old ≡ core_alone }
-        ensures declared { OnOk result (declared self.new ≡ core_structs) }
+        ensures declared { OnOk result (declared self.new ≡ core_box) }
         ensures consistent { OnOk result (IsConsistent self.new) }
     {
         let params = vec![in self.alloc; ParamKind::Type]?;
@@ -144,6 +144,19 @@ impl Tables {
         };
         let fields = vec![in self.alloc; TermCell::Param(0), pointer]?;
         self.add_struct(b"Box", true, params, fields)?;
+        Ok(())
+    }
+
+    /// `struct ::W<T>`, a name that no text can write.
+    fn add_wrapper(&mut self) -> Result<(), AllocError>
+        requires consistent { IsConsistent self.old }
+        requires before { declared self.old ≡ core_box }
+        ensures declared { OnOk result (declared self.new ≡ core_structs) }
+        ensures consistent { OnOk result (IsConsistent self.new) }
+    {
+        let params = vec![in self.alloc; ParamKind::Type]?;
+        let fields = Vec::new(self.alloc);
+        self.add_struct(b"::W", false, params, fields)?;
         Ok(())
     }
 
@@ -323,6 +336,7 @@ impl Tables {
     {
         let mut tables = Tables::core_alone(alloc)?;
         tables.add_box()?;
+        tables.add_wrapper()?;
         tables.add_first_traits()?;
         tables.add_second_traits()?;
         tables.add_third_traits()?;

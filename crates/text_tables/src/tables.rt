@@ -1,19 +1,19 @@
 //! The tables that a text fills, line by line. They know no grammar: they are given the parts of a line, not the line.
-ghost use Rattle.std.specs.Prelude.{◌≡◌, ◌<◌, ◌++◌, ◌∷◌, [], ℕ, None, true, false, All, length, map, filter, nat_le, slice_get, unwrap_or, OnOk, OnErr, IfOk, IfSome};
-ghost use Rattle.std.specs.List.{list_any};
+ghost use Rattle.std.specs.Prelude.{◌≡◌, ◌<◌, ◌++◌, ◌∷◌, [], ℕ, None, true, false, All, length, map, filter, nat_le, slice_get, unwrap_or, not, ◌&&◌, nat_eq, OnOk, OnErr, IfOk, IfSome};
+ghost use Rattle.std.specs.List.{list_any, starts_with};
 ghost use Rattle.std.specs.Option.{option_map, option_and_then};
 ghost use Rattle.type_terms.specs.Promised.Worlds.{sees};
 ghost use Rattle.text_language.specs.Promised.Syntax.{Line, crate_line, later_line, supers_line};
 ghost use Rattle.text_language.specs.Promised.Declarations.{known, world_of, last_crate, last_changed, last_later, impl_owner};
-ghost use Rattle.text_language.specs.Promised.Faults.{last_items};
+ghost use Rattle.text_language.specs.Promised.Faults.{is_among, last_items};
 ghost use Rattle.text_language.specs.Lowering.{crate_number};
 ghost use Rattle.text_language.specs.Adding.{added};
 ghost use Rattle.text_tables.specs.Numbered.{IsFew};
-ghost use Rattle.text_tables.specs.Tables.{declared, with_question, with_new_crate, will_see, named_item, item_named, core_alone, number_of_crate, IsConsistent, MarksSeen};
+ghost use Rattle.text_tables.specs.Tables.{declared, with_question, with_new_crate, will_see, named_item, item_named, core_alone, number_of_crate, has_name_besides, IsConsistent, MarksSeen};
 ghost use Rattle.text_tables.specs.Unasked.{without_last_question};
 ghost use Rattle.text_tables.specs.Made.{AreMade, ReferenceMade, ReferencesMade, is_type};
 ghost use Rattle.text_tables.specs.Parts.{AddsStruct, AddsStructLine, AddsTrait, AddsTraitLine, AddsImpl, AddsLaterImpl, AddsImplLine, AddsQuestionLine};
-ghost use Rattle.text_tables.specs.Views.{known_of, sorts_of, cells_of, reference_of, question_of, asker_of, param_names, numbers_of, name_texts};
+ghost use Rattle.text_tables.specs.Views.{known_of, sorts_of, cells_of, reference_of, question_of, asker_of, param_names, numbers_of, name_texts, trait_of};
 ghost use Rattle.text_tables.specs.TermCells.{trees_of};
 
 use crate::cell::{ParamKind, TermCell};
@@ -86,6 +86,41 @@ fn is_marked(row: &[bool], place: u32) -> bool
     ensures { result ≡ unwrap_or (slice_get row.now place) false }
 {
     row.get(place as usize).copied().unwrap_or(false)
+}
+
+/// Whether a name is one of others.
+fn is_one_of(name: &[u8], names: &[Vec<u8>]) -> bool
+    ensures { result ≡ is_among name.now (map (λ v. v.items) names.now) }
+{
+    let mut rest = names;
+    while let [first, others @ ..] = rest {
+        if first.as_slice() == name {
+            return true;
+        }
+        rest = others;
+    }
+    false
+}
+
+/// Whether a name begins so, and is none of others.
+fn is_besides(name: &[u8], front: &[u8], names: &[Vec<u8>]) -> bool
+    ensures { result ≡ has_name_besides front.now (map (λ v. v.items) names.now) name.now }
+{
+    name.starts_with(front) && !is_one_of(name, names)
+}
+
+/// Whether one of the traits has a name that begins so, and is none of others.
+fn any_besides(traits: &[TraitEntry], front: &[u8], names: &[Vec<u8>]) -> bool
+    ensures { result ≡ list_any (λ t. has_name_besides front.now (map (λ v. v.items) names.now) t.text) (map trait_of traits.now) }
+{
+    let mut rest = traits;
+    while let [first, others @ ..] = rest {
+        if is_besides(&first.name, front, names) {
+            return true;
+        }
+        rest = others;
+    }
+    false
 }
 
 impl Tables {
@@ -218,6 +253,13 @@ impl Tables {
         ensures { result ≡ length (declared self.now).traits }
     {
         self.traits.len()
+    }
+
+    /// Whether some trait has a name that begins so, and is none of others.
+    pub fn has_trait_besides(&self, front: &[u8], names: &[Vec<u8>]) -> bool
+        ensures { result ≡ list_any (λ t. has_name_besides front.now (map (λ v. v.items) names.now) t.text) (declared self.now).traits }
+    {
+        any_besides(&self.traits, front, names)
     }
 
     /// How many queries there are, of both kinds.
