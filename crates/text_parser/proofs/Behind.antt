@@ -10,7 +10,8 @@ use Rattle.text_language.specs.Promised.Text.{text_limit}
 use Rattle.text_tables.specs.Numbered.{IsFew}
 use Rattle.text_parser.specs.Behind.{IsOneLine, behind, FitsBehind}
 use Rattle.text_parser.specs.Lines.{lines_behind}
-use Rattle.text_parser.proofs.Taking.{given-few, few-weaken}
+use Rattle.text_parser.proofs.Few.{few-weaken}
+use Rattle.text_parser.proofs.Taking.{given-few}
 use Rattle.text_language.proofs.TypeBasics.{text-short}
 
 -- ---- the lines of both
@@ -98,23 +99,28 @@ faulty-behind bytes line d n t one short g =
     (subst (λ (ls : List (List ℕ)). LinesGive nothing_declared 1 ls (Err (1 + length (lines_of bytes), n))) (one-more-line bytes line one) (refused-behind nothing_declared d n 1 (lines_of bytes) line (lines-given bytes d t) g)))
 
 -- ---- how much a text declares
-onto-length : (b : ℕ) (l : List ℕ) (ls xs : List (List ℕ)) → xs ≡ l ∷ ls → length (onto_line b xs) ≡ length xs
-onto-length b l ls xs is = rw is refl
+-- the bytes of lines, without those that end them
+abbrev bytes_in : List (List ℕ) → ℕ
+bytes_in [] = 0
+bytes_in (l ∷ ls) = length l + bytes_in ls
 
-few-lines : (bytes : List ℕ) → length (lines_of bytes) ≤ length bytes + 1
-few-lines [] = omega arith
-few-lines (b ∷ bs) =
+onto-bytes : (b : ℕ) (l : List ℕ) (ls xs : List (List ℕ)) → xs ≡ l ∷ ls → bytes_in (onto_line b xs) ≡ suc (bytes_in xs)
+onto-bytes b l ls xs is = rw is (omega arith)
+
+few-bytes : (bytes : List ℕ) → bytes_in (lines_of bytes) ≤ length bytes
+few-bytes [] = omega arith
+few-bytes (b ∷ bs) =
     elim (cases_Bool (eqb b 10)) [
-      | inl h ↦ rw h (omega (arith, few-lines bs))
+      | inl h ↦ rw h (omega (arith, few-bytes bs))
       | inr h ↦
           let (l, ls, is) = first-line bs in
-          rw h (omega (arith, onto-length b l ls (lines_of bs) is, few-lines bs))
+          rw h (omega (arith, onto-bytes b l ls (lines_of bs) is, few-bytes bs))
     ]
 
-lines-few : (d e : Declarations) (k j : ℕ) (ls : List (List ℕ)) → LinesGive d k ls (Ok e) → IsFew d j → IsFew e (j + length ls)
+lines-few : (d e : Declarations) (k j : ℕ) (ls : List (List ℕ)) → LinesGive d k ls (Ok e) → IsFew d j → IsFew e (j + bytes_in ls)
 lines-few d e k j [] (ends _ _) few = few-weaken d j (j + 0) (omega arith) few
 lines-few d e k j (l ∷ ls) (goes_on _ c _ _ _ _ first rest) few =
-    few-weaken e (j + 1 + length ls) (j + length (l ∷ ls)) (omega arith) (lines-few c e (suc k) (j + 1) ls rest (given-few d c l j first few))
+    few-weaken e (j + length l + bytes_in ls) (j + bytes_in (l ∷ ls)) (omega arith) (lines-few c e (suc k) (j + length l) ls rest (given-few d c l j first few))
 
 nothing-few : IsFew nothing_declared 50
 nothing-few = record { few_crates = search rules; few_structs = search rules; few_traits = search rules; few_impls = search rules; few_questions = search rules; few_sections = search rules; few_later = search rules }
@@ -122,7 +128,7 @@ nothing-few = record { few_crates = search rules; few_structs = search rules; fe
 pub texts-few : (bytes : List ℕ) (d : Declarations) → TextGives bytes (Ok d) → IsFew d 67108928
 texts-few bytes d t =
     let short : length bytes ≤ 67108864 = text-short bytes d t in
-    few-weaken d (50 + length (lines_of bytes)) 67108928 (omega (arith, few-lines bytes, short)) (lines-few nothing_declared d 1 50 (lines_of bytes) (lines-given bytes d t) nothing-few)
+    few-weaken d (50 + bytes_in (lines_of bytes)) 67108928 (omega (arith, few-bytes bytes, short)) (lines-few nothing_declared d 1 50 (lines_of bytes) (lines-given bytes d t) nothing-few)
 
 -- ---- whether bytes are one line, where this is their first and this is what stands behind its end, if anything does
 pub is-alone : (bytes first : List ℕ) (rest : Option (Bor (List ℕ))) (b : Bool) → lines_of bytes ≡ first ∷ lines_behind rest → is_some rest ≡ not b → b ≡ true → IsOneLine bytes

@@ -10,6 +10,14 @@ pub mod Digits
 mod Texts
 mod FirstBytes
 mod Shortness
+mod Formed
+mod Few
+mod ListsTaken
+mod ManyLines
+mod TypeBytes
+mod TypedCells
+mod TypedTaken
+mod OwnFaults
 mod Taking
 pub mod Ordering
 pub mod WhatIsAdded

@@ -69,7 +69,7 @@ tokens-few (byte b ∷ ps) =
     either-tokens (b == 32) (tokens_from ps) (in_front (sign_token b) (tokens_from ps)) (suc (length ps))
     (more-few (length ps) (suc (length ps)) (tokens_from ps) (omega arith) (tokens-few ps)) (front-few (length ps) (sign_token b) (tokens_from ps) (tokens-few ps))
 
-tokens-of-few : (bytes : List ℕ) (ts : List Token) → tokens_of bytes ≡ Some ts → length ts ≤ length bytes
+pub tokens-of-few : (bytes : List ℕ) (ts : List Token) → tokens_of bytes ≡ Some ts → length ts ≤ length bytes
 unfolding tokens_of Few
 tokens-of-few bytes ts e = let few : length ts ≤ length (pieces bytes) = subst (Few (length (pieces bytes))) e (tokens-few (pieces bytes)) in omega (arith, few, pieces-few bytes)
 
@@ -229,7 +229,7 @@ clauses-few (k ∷ ks) o =
     one-more (keyword where_word) (clause_spelling k ++ more) o y (both-few (clause_spelling k) more o x y (clause-few k o) (behind-few comma clause_onto clause_spelling clause-few ks x))
 
 -- ---- lines
-line-few : (l : Line) → length (line_cells l) ≤ 0 + length (spelling l)
+pub line-few : (l : Line) → length (line_cells l) ≤ 0 + length (spelling l)
 line-few (crate_line n us) = omega arith
 line-few (struct_line f n ps fs) =
     let x = all_onto type_onto (type_list fs) [] in

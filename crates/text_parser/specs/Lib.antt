@@ -5,6 +5,8 @@ pub mod Keeping
 pub mod Laws
 pub mod Kept
 pub mod Lines
+pub mod Lists
+pub mod WrittenLines
 pub mod Forms
 pub mod Declaring
 pub mod Outcomes

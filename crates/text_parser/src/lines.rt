@@ -1,5 +1,5 @@
 //! The lines of a text.
-ghost use Rattle.std.specs.Prelude.{◌≡◌, ◌==◌, ◌∷◌, ◌<◌, ◌≤◌, count_by, length, take_while, not, true, false, IfSome};
+ghost use Rattle.std.specs.Prelude.{◌≡◌, ◌==◌, ◌∷◌, ◌+◌, ◌<◌, ◌≤◌, count_by, length, take_while, not, true, false, IfSome};
 ghost use Rattle.text_language.specs.Text.{lines_of};
 ghost use Rattle.text_language.specs.Promised.Text.{long_line};
 ghost use Rattle.text_parser.specs.Behind.{IsOneLine};
@@ -45,8 +45,8 @@ pub fn is_one_line(bytes: &[u8]) -> bool
 pub fn split_line(bytes: &[u8]) -> (&[u8], Option<&[u8]>)
     ensures lines { lines_of bytes.now ≡ result.0.now ∷ lines_behind result.1 }
     ensures within { length result.0.now ≤ length bytes.now }
-    // The rest is shorter, so the loop over lines ends.
-    ensures left { IfSome result.1 (λ rest. length rest.now < length bytes.now) }
+    // The rest is shorter by the line and its end.
+    ensures left { IfSome result.1 (λ rest. length result.0.now + length rest.now < length bytes.now) }
 {
     let (line, after) = bytes.split_at(line_end(bytes));
     match after {

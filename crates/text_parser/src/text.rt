@@ -2,7 +2,11 @@
 ghost use Rattle.std.specs.Prelude.{◌≡◌, ◌≤◌, length, IfOk, IfErr, OnOk, Ok, None};
 ghost use Rattle.text_language.specs.Text.{LinesGive, lines_of, TextGives};
 ghost use Rattle.text_parser.specs.Declaring.{IsRead, FindsFault, AddsLine};
+ghost use Rattle.text_lines.specs.TokenViews.{tokens_in};
+ghost use Rattle.text_parser.specs.Forms.{HasTyped, SaysSomething};
+ghost use Rattle.text_parser.specs.Lists.{HasRoom};
 ghost use Rattle.text_parser.specs.Outcomes.{TakesLine, AreRefused, IsTextError};
+ghost use Rattle.text_parser.specs.WrittenLines.{IsTypedLine, TakesPlain, TakesTyped};
 ghost use Rattle.text_tables.specs.Numbered.{IsFew};
 ghost use Rattle.text_tables.specs.Tables.{declared, IsConsistent};
 
@@ -11,8 +15,10 @@ use crate::fault::{TextError, TextFault};
 use crate::faults::judge_line;
 use crate::form::{LineForm, line_form};
 use crate::lines::{TEXT_LIMIT, long_line, split_line};
+use crate::lists::take_lists;
+use crate::own_faults::{is_ill_bound, lacks_types, with_own_fault};
 use std::alloc::{AllocError, Global};
-use text_lines::LineRead;
+use text_lines::{LineError, LineRead, Token, TypedLine, is_overlong, read_typed};
 use text_names::{FaultKind, JudgedLine};
 use text_tables::{ENTRY_LIMIT, Tables, Workspace};
 
@@ -20,7 +26,7 @@ use text_tables::{ENTRY_LIMIT, Tables, Workspace};
 const CORE_LIMIT: usize = 50;
 
 /// Takes a line that was read. Returns its fault, or `None` if the line was declared.
-fn take_read(
+pub(crate) fn take_read(
     alloc: Global,
     tables: &mut Tables,
     read: &LineRead<'_>,
@@ -42,6 +48,74 @@ fn take_read(
     }
 }
 
+/// Takes a line that says nothing of types, with these bytes. Returns its fault, or `None` if it was declared.
+fn take_plain(
+    alloc: Global,
+    tables: &mut Tables,
+    line: &[u8],
+    read: &LineRead<'_>,
+) -> Result<Option<FaultKind>, AllocError>
+    requires agrees { IsConsistent tables.old }
+    requires few { IsFew (declared tables.old) ENTRY_LIMIT }
+    requires read { IsRead read.now }
+    requires short { length read.now.cells.items ≤ TEXT_LIMIT }
+    ensures gives { IfOk result (λ found. TakesPlain (declared tables.old) line.now read.now found (declared tables.new)) }
+    ensures agrees { OnOk result (IsConsistent tables.new) }
+{
+    if is_overlong(line) {
+        return Ok(Some(FaultKind::Limit));
+    }
+    let is_ill = lacks_types(alloc, tables, read)?;
+    let found = take_read(alloc, tables, read)?;
+    Ok(with_own_fault(found, is_ill))
+}
+
+/// Takes a line with types that was read, with these bytes. Returns its fault, or `None` if all lines for which it stands were declared.
+fn take_typed(
+    alloc: Global,
+    tables: &mut Tables,
+    line: &[u8],
+    read: &TypedLine<'_, '_>,
+) -> Result<Option<FaultKind>, AllocError>
+    requires agrees { IsConsistent tables.old }
+    requires room { HasRoom (declared tables.old) (length line.now) }
+    requires read { IsTypedLine line.now read.now }
+    ensures gives { IfOk result (λ found. TakesTyped (declared tables.old) line.now read.now found (declared tables.new)) }
+    ensures agrees { OnOk result (IsConsistent tables.new) }
+{
+    if is_overlong(line) {
+        return Ok(Some(FaultKind::Limit));
+    }
+    if read.has_many_types() {
+        return Ok(Some(FaultKind::Limit));
+    }
+    let is_ill = is_ill_bound(alloc, tables, read)?;
+    let lists = read.lists(alloc)?;
+    let found = take_lists(alloc, tables, &lists)?;
+    Ok(with_own_fault(found, is_ill))
+}
+
+/// Takes a line with these tokens, with `=` or `{` among them. Returns its fault, or `None` if all lines for which it stands were declared.
+fn take_tokens(
+    alloc: Global,
+    tables: &mut Tables,
+    line: &[u8],
+    tokens: &[Token<'_>],
+) -> Result<Option<FaultKind>, AllocError>
+    requires agrees { IsConsistent tables.old }
+    requires room { HasRoom (declared tables.old) (length line.now) }
+    requires says { SaysSomething line.now }
+    requires tokens { HasTyped line.now (tokens_in tokens.now) }
+    ensures gives { IfOk result (λ found. TakesLine (declared tables.old) line.now found (declared tables.new)) }
+    ensures agrees { OnOk result (IsConsistent tables.new) }
+{
+    match read_typed(alloc, tokens) {
+        Err(LineError::Memory) => Err(AllocError),
+        Err(LineError::Syntax) => Ok(Some(FaultKind::Syntax)),
+        Ok(read) => take_typed(alloc, tables, line, &read),
+    }
+}
+
 /// Takes a line. Returns its fault, or `None` if the line was declared or says nothing.
 fn take_line(
     alloc: Global,
@@ -49,7 +123,7 @@ fn take_line(
     line: &[u8],
 ) -> Result<Option<FaultKind>, AllocError>
     requires agrees { IsConsistent tables.old }
-    requires few { IsFew (declared tables.old) ENTRY_LIMIT }
+    requires room { HasRoom (declared tables.old) (length line.now) }
     requires short { length line.now ≤ TEXT_LIMIT }
     ensures gives { IfOk result (λ found. TakesLine (declared tables.old) line.now found (declared tables.new)) }
     ensures agrees { OnOk result (IsConsistent tables.new) }
@@ -58,7 +132,8 @@ fn take_line(
         LineForm::OtherByte => Ok(Some(FaultKind::OtherByte)),
         LineForm::Unwritten => Ok(Some(FaultKind::Syntax)),
         LineForm::Blank => Ok(None),
-        LineForm::Read(read) => take_read(alloc, tables, &read),
+        LineForm::Read(read) => take_plain(alloc, tables, line, &read),
+        LineForm::Typed(tokens) => take_tokens(alloc, tables, line, &tokens),
     }
 }
 

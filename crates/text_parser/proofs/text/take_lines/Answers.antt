@@ -1,10 +1,22 @@
-use Rattle.std.proofs.Common.{◌+◌, ◌∷◌, Ok, Err, sym, ap, ◌∙◌, subst, add-one, arith}
+use Rattle.std.proofs.Common.{◌∷◌, length, Ok, Err, sym, ap, ◌∙◌, subst, add-one, arith}
 use Rattle.text_language.specs.Text.{LinesGive, ends, fails, goes_on}
 use Rattle.text_names.specs.FaultNumbers.{fault_number}
 use Rattle.text_tables.specs.Tables.{declared}
 use Rattle.text_parser.specs.Lines.{lines_behind}
-use Rattle.text_parser.proofs.Taking.{given-few, few-weaken}
+use Rattle.text_parser.proofs.Taking.{room-at-first, room-less, room-behind, few-behind}
 use Rattle.text_parser.proofs.text.take_lines.Goals as goal
+
+pub lines-init : goal.lines-init
+lines-init c = record {
+  agrees = c.requires.agrees;
+  room = room-at-first _ _ c.requires.few c.requires.short;
+  counted = omega arith;
+  short = omega (arith, c.requires.short);
+  so_far = λ r h. h;
+}
+
+pub take_line-requires-clause-room : goal.take_line-requires-clause-room
+take_line-requires-clause-room c = room-less _ _ (length c.lines.rest.now) c.split_line.ensures.within c.lines.invariant.room
 
 pub returns-in-Some-clause-refused : goal.returns-in-Some-clause-refused
 returns-in-Some-clause-refused c =
@@ -20,7 +32,7 @@ returns-in-None-clause-taken c =
 pub returns-in-None-clause-few : goal.returns-in-None-clause-few
 returns-in-None-clause-few c =
     let given = rw c.in_default.is at c.in_ok-kind.ensures.gives in
-    few-weaken _ (c.lines.place + 49 + 1) 67108928 (omega (arith, c.lines.invariant.short)) (given-few _ _ _ (c.lines.place + 49) given c.lines.invariant.few)
+    few-behind _ _ _ given (room-less _ _ (length c.lines.rest.now) c.split_line.ensures.within c.lines.invariant.room)
 
 pub lines-preserved : goal.lines-preserved
 lines-preserved c =
@@ -29,7 +41,7 @@ lines-preserved c =
     let shorter = rw c.in-Some-behind.is at c.split_line.ensures.left in
     record {
       agrees = c.in_ok-kind.ensures.agrees;
-      few = few-weaken _ (c.lines.place + 49 + 1) (c.lines.place + 1 + 49) (omega arith) (given-few _ _ _ (c.lines.place + 49) given c.lines.invariant.few);
+      room = room-behind _ _ _ _ (length c.lines.rest.now) given (omega (arith, shorter)) c.lines.invariant.room;
       counted = omega arith;
       short = omega (arith, shorter, c.lines.invariant.short);
       so_far = λ r h. c.lines.invariant.so_far r (subst (λ ls. LinesGive (declared c.lines.tables) c.lines.place ls r) (sym whole) (goes_on _ _ _ _ _ _ given (rw add-one at h)));
