@@ -1,26 +1,52 @@
 -- What each line keeps, a text keeps.
-use Rattle.std.proofs.Common.{◌≡◌, ℕ, zero, suc, ◌-◌, Bool, true, false, if◌then◌else◌, List, [], ◌∷◌, ◌++◌, length, Some, None, Ok, subst}
+use Rattle.std.proofs.Common.{◌≡◌, ℕ, zero, suc, ◌-◌, Bool, true, false, if◌then◌else◌, List, [], ◌∷◌, ◌++◌, length, fold, min, Option, Some, None, Ok, refl, subst}
 use Rattle.std.proofs.lemmas.Option.{same_Some}
 use Rattle.std.specs.Prelude.{slice_get}
-use Rattle.text_language.specs.Promised.Syntax.{Params, Clause, Line, crate_line, struct_line, trait_line, impl_line, prove_line, refute_line, later_line, supers_line}
+use Rattle.std.specs.List.{reduce}
+use Rattle.std.specs.Option.{option_or, option_to_list}
+use Rattle.text_language.specs.Promised.Syntax.{Params, Clause, Line, crate_line, struct_line, trait_line, impl_line, prove_line, refute_line, later_line, supers_line, WrittenLine}
 use Rattle.text_language.specs.Promised.Declarations.{Declarations, NamedImpl, Question}
+use Rattle.text_language.specs.Promised.Desugared.{desugared, own_faults, passes_types}
 use Rattle.text_language.specs.Declarations.{nothing_declared}
 use Rattle.text_language.specs.Syntax.{spelling}
 use Rattle.text_language.specs.Faults.{fault_of}
 use Rattle.text_language.specs.Adding.{added, impl_of, item_meanings, question_of, question_meanings}
-use Rattle.text_language.specs.Text.{LineGives, blank, adds, LinesGive, ends, goes_on, TextGives, fits}
+use Rattle.text_language.specs.Text.{LineGives, blank, adds, LinesGive, ends, goes_on, TextGives, fits, first_of, fault_written}
 use Rattle.declarations.specs.Promised.Elaboration.{Each}
 use Rattle.text_lowering.proofs.Applied.{each-more}
 use Rattle.text_lowering.proofs.ScalarTokens.{AllFine, written-fine}
+use Rattle.text_lowering.proofs.FineLines.{stands-fine}
+
+-- ---- faults
+-- the first of two
+neither : (o p : Option ℕ) → option_or o p ≡ None → (o ≡ None) × (p ≡ None)
+neither None p e = (refl, e)
+neither (Some n) p e = absurd cc
+
+-- a written line without a fault stands for lines without one
+lines-faultless : (d : Declarations) (line : List ℕ) (w : WrittenLine) → fault_written d line w ≡ None → first_of d (desugared w) ≡ None
+lines-faultless d line w f = by (passes_types line w) (first_of d (desugared w)) f
+  where
+    by : (b : Bool) (o : Option ℕ) → (if b then Some 16 else reduce min (option_to_list o ++ own_faults d w)) ≡ None → o ≡ None
+    by true o g = absurd cc
+    by false None g = refl
+    by false (Some n) g = absurd cc
 
 -- ---- declarations
--- What declarations keep if a line without a fault is added. Of how the line is written only this is known: its primitive
--- types are scalars, or `str`.
+-- What declarations keep if a line without a fault is added. A written line stands for such lines. Of how they are
+-- spelled only this is known: their primitive types are scalars, or `str`.
 module _ (P : Declarations → Type 0) (keeps : (d : Declarations) (l : Line) → AllFine (spelling l) → fault_of d l ≡ None → P d → P (added d l)) where
+  -- of the lines for which a line of the text stands
+  fold-keeps : (d : Declarations) (ls : List Line) → Each (λ l. AllFine (spelling l)) ls → first_of d ls ≡ None → P d → P (fold added d ls)
+  fold-keeps d [] w f h = h
+  fold-keeps d (l ∷ ls) w f h =
+      let g = neither (fault_of d l) (first_of (added d l) ls) f in
+      fold-keeps (added d l) ls w.1 g.1 (keeps d l w.0 g.0 h)
+
   -- of one line of the text
   line-keeps : (d e : Declarations) (line : List ℕ) → LineGives d line (Ok e) → P d → P e
   line-keeps d e line (blank a b) h = h
-  line-keeps d e line (adds l a b w f) h = keeps d l (written-fine line l w) f h
+  line-keeps d e line (adds w a b s f) h = fold-keeps d (desugared w) (stands-fine w (written-fine line w s)) (lines-faultless d line w f) h
 
   -- the induction over its lines
   lines-keep : (d e : Declarations) (k : ℕ) (ls : List (List ℕ)) → LinesGive d k ls (Ok e) → P d → P e

@@ -19,6 +19,7 @@ pub mod Standing
 mod Lines
 mod Params
 pub mod ScalarTokens
+mod FineLines
 pub mod EachLine
 mod DeclaredItems
 pub mod Spoken

@@ -9,9 +9,9 @@ use Rattle.type_terms.specs.Promised.Label.{Label}
 use Rattle.text_language.specs.Words.{Keyword, primitives, primitive_named, keyword_named, Sign, sign_at, is_digit, comma, for_word, fundamental_word, auto_word, colon}
 use Rattle.text_language.specs.Words as words
 use Rattle.text_language.specs.Tokens.{Token, keyword, primitive, name, lifetime, variable, number, sign, arrow, LinePiece, word, quoted, queried, pointing, byte, in_front, word_token, as_lifetime, as_variable, sign_token, name_token, number_from, tokens_from, tokens_of, pieces}
-use Rattle.text_language.specs.Promised.Syntax.{TypeTree, of_primitive, never_type, variable_type, named, reference_to, pointer_to, slice_of, array_of, tuple_of, fn_of, fn_to, dyn_of, Types, no_types, and_type, Args, no_args, and_arg, Arg, lifetime_arg, number_arg, type_arg, Item, bound_item, lifetime_item, DynBounds, no_items, and_item, Params, Bound, Clause, Line, struct_line, trait_line, impl_line, prove_line, refute_line}
-use Rattle.text_language.specs.Syntax.{type_spelling, lifetime_spelling, mut_spelling, binder_spelling, tuple_spelling, second_item, inputs_spelling, more_types, args_spelling, more_args, arg_spelling, item_spelling, more_items, params_spelling, bound_spelling, clause_spelling, bounds_spelling, where_spelling, fields_spelling, behind, spelling, if_so}
-use Rattle.text_language.specs.Written.{IsWritten}
+use Rattle.text_language.specs.Promised.Syntax.{TypeTree, of_primitive, never_type, variable_type, named, reference_to, pointer_to, slice_of, array_of, tuple_of, fn_of, fn_to, dyn_of, Types, no_types, and_type, Args, no_args, and_arg, Arg, lifetime_arg, number_arg, type_arg, Item, bound_item, lifetime_item, DynBounds, no_items, and_item, Params, Bound, Clause, struct_line, trait_line, impl_line, prove_line, refute_line, WrittenLine}
+use Rattle.text_language.specs.Syntax.{type_spelling, lifetime_spelling, mut_spelling, binder_spelling, tuple_spelling, second_item, inputs_spelling, more_types, args_spelling, more_args, arg_spelling, item_spelling, more_items, params_spelling, bound_spelling, clause_spelling, bounds_spelling, where_spelling, fields_spelling, behind, spelling, written_spelling, if_so}
+use Rattle.text_language.specs.Written.{IsSpelled}
 use Rattle.text_lowering.proofs.Scalars.{is_scalar, Scalars, ScalarTypes, ScalarArgs, ScalarArg, ScalarItem, ScalarItems}
 
 -- ---- primitive tokens are primitive types
@@ -98,18 +98,18 @@ tokens-fine (byte b ∷ ps) ts e = by (b == 32) e (λ rest g. tokens-fine ps res
     by false g h = in-front (sign_token b) (tokens_from ps) ts g (λ x q. sign-fine (sign_at b) x q) h
 
 -- a written line has primitive types alone for primitive tokens
-pub written-fine : (line : List ℕ) (l : Line) → IsWritten line l → AllFine (spelling l)
+pub written-fine : (line : List ℕ) (w : WrittenLine) → IsSpelled line w → AllFine (written_spelling w)
 unfolding tokens_of
-written-fine line l w = tokens-fine (pieces line) (spelling l) w
+written-fine line w s = tokens-fine (pieces line) (written_spelling w) s
 
 -- ---- parts of what is fine
 -- the last of them
-fine-behind : (xs ys : List Token) → AllFine (xs ++ ys) → AllFine ys
+pub fine-behind : (xs ys : List Token) → AllFine (xs ++ ys) → AllFine ys
 fine-behind [] ys h = h
 fine-behind (x ∷ xs) ys h = fine-behind xs ys h.1
 
 -- the first of them
-fine-front : (xs ys : List Token) → AllFine (xs ++ ys) → AllFine xs
+pub fine-front : (xs ys : List Token) → AllFine (xs ++ ys) → AllFine xs
 fine-front [] ys h = tt
 fine-front (x ∷ xs) ys h = (h.0, fine-front xs ys h.1)
 
