@@ -566,7 +566,7 @@ core-crates (suc k) x e = absurd cc
 pub core-formed : Formed nothing_declared
 core-formed = record {
   crates = core-crates;
-  structs = ((record { nodes = (refl, (tt, tt, tt), tt); sort = refl }, tt), tt);
+  structs = ((record { nodes = (refl, (tt, tt, tt), tt); sort = refl }, tt), (tt, tt));
   traits = (tt, ((record { nodes = (tt, tt, tt); trait = (core_trait 0, refl, refl, refl) }, tt), ((record { nodes = (tt, tt, tt); trait = (core_trait 1, refl, refl, refl) }, tt), (tt, (tt, (tt, ((record { nodes = (tt, tt, (tt, tt, tt)); trait = (core_trait 5, refl, refl, refl) }, tt), ((record { nodes = (tt, tt, (tt, tt, tt)); trait = (core_trait 6, refl, refl, refl) }, tt), (tt, tt)))))))));
   impls = ((record { nodes = (tt, tt, tt); trait = (core_trait 1, refl, refl, refl) }, tt), ((record { nodes = (tt, tt, tt); trait = (core_trait 1, refl, refl, refl) }, tt), ((record { nodes = (tt, tt, tt); trait = (core_trait 1, refl, refl, refl) }, tt), ((record { nodes = (tt, tt, tt); trait = (core_trait 1, refl, refl, refl) }, tt), ((record { nodes = (tt, tt, tt); trait = (core_trait 1, refl, refl, refl) }, tt), ((record { nodes = (tt, tt, tt); trait = (core_trait 1, refl, refl, refl) }, tt), ((record { nodes = (tt, tt, tt); trait = (core_trait 1, refl, refl, refl) }, tt), ((record { nodes = (tt, tt, tt); trait = (core_trait 1, refl, refl, refl) }, tt), ((record { nodes = (tt, tt, tt); trait = (core_trait 1, refl, refl, refl) }, tt), ((record { nodes = (tt, tt, tt); trait = (core_trait 1, refl, refl, refl) }, tt), ((record { nodes = (tt, tt, tt); trait = (core_trait 1, refl, refl, refl) }, tt), ((record { nodes = (tt, tt, tt); trait = (core_trait 1, refl, refl, refl) }, tt), ((record { nodes = (tt, tt, tt); trait = (core_trait 1, refl, refl, refl) }, tt), ((record { nodes = (tt, tt, tt); trait = (core_trait 1, refl, refl, refl) }, tt), ((record { nodes = (tt, tt, tt); trait = (core_trait 1, refl, refl, refl) }, tt), ((record { nodes = (refl, (tt, tt, (tt, tt, tt)), tt); trait = (core_trait 1, refl, refl, refl) }, tt), ((record { nodes = (refl, (tt, tt, tt), tt); trait = (core_trait 1, refl, refl, refl) }, tt), ((record { nodes = (refl, (tt, tt, tt), tt); trait = (core_trait 1, refl, refl, refl) }, tt), ((record { nodes = (refl, (tt, tt, (tt, tt, tt)), tt); trait = (core_trait 1, refl, refl, refl) }, (record { nodes = (tt, tt, tt); trait = (core_trait 1, refl, refl, refl) }, tt)), ((record { nodes = ((core_box, refl, refl, refl), (tt, tt, tt), tt); trait = (core_trait 1, refl, refl, refl) }, (record { nodes = (tt, tt, tt); trait = (core_trait 1, refl, refl, refl) }, tt)), ((record { nodes = (tt, tt, tt); trait = (core_trait 2, refl, refl, refl) }, tt), ((record { nodes = (tt, tt, tt); trait = (core_trait 2, refl, refl, refl) }, tt), ((record { nodes = (tt, tt, tt); trait = (core_trait 2, refl, refl, refl) }, tt), ((record { nodes = (tt, tt, tt); trait = (core_trait 2, refl, refl, refl) }, tt), ((record { nodes = (tt, tt, tt); trait = (core_trait 2, refl, refl, refl) }, tt), ((record { nodes = (tt, tt, tt); trait = (core_trait 2, refl, refl, refl) }, tt), ((record { nodes = (tt, tt, tt); trait = (core_trait 2, refl, refl, refl) }, tt), ((record { nodes = (tt, tt, tt); trait = (core_trait 2, refl, refl, refl) }, tt), ((record { nodes = (tt, tt, tt); trait = (core_trait 2, refl, refl, refl) }, tt), ((record { nodes = (tt, tt, tt); trait = (core_trait 2, refl, refl, refl) }, tt), ((record { nodes = (tt, tt, tt); trait = (core_trait 2, refl, refl, refl) }, tt), ((record { nodes = (tt, tt, tt); trait = (core_trait 2, refl, refl, refl) }, tt), ((record { nodes = (tt, tt, tt); trait = (core_trait 2, refl, refl, refl) }, tt), ((record { nodes = (tt, tt, tt); trait = (core_trait 2, refl, refl, refl) }, tt), ((record { nodes = (tt, tt, tt); trait = (core_trait 2, refl, refl, refl) }, tt), ((record { nodes = (refl, (tt, tt, (tt, tt, tt)), tt); trait = (core_trait 2, refl, refl, refl) }, tt), ((record { nodes = (refl, (tt, tt, tt), tt); trait = (core_trait 2, refl, refl, refl) }, tt), ((record { nodes = (refl, (tt, tt, tt), tt); trait = (core_trait 2, refl, refl, refl) }, tt), ((record { nodes = (refl, (tt, tt, (tt, tt, tt)), tt); trait = (core_trait 2, refl, refl, refl) }, (record { nodes = (tt, tt, tt); trait = (core_trait 2, refl, refl, refl) }, tt)), tt)))))))))))))))))))))))))))))))))))))));
   questions = tt;

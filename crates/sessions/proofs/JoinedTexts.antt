@@ -282,7 +282,7 @@ module _ (d : Declarations) (a : AllKept d) where
   structs-of-core =
       let b = a.kept.structs in
       ap (λ ns. filter (λ (x : StructDecl). sees W core x.home) (map erased_struct (map (λ (n : NamedStruct). n.item) ns))) b.1
-      ∙ core-alone erased_struct (λ (n : NamedStruct). n.item) (λ (x : StructDecl). sees W core x.home) nothing_declared.structs b.0 (core-seen W core, tt)
+      ∙ core-alone erased_struct (λ (n : NamedStruct). n.item) (λ (x : StructDecl). sees W core x.home) nothing_declared.structs b.0 (core-seen W core, (core-seen W core, tt))
       (each-map (λ (n : NamedStruct). core < n.item.home) (λ (n : NamedStruct). sees W core n.item.home ≡ false) (λ n h. not-core n.item.home h) b.0 b.2)
 
   all-core : {A : Type 0} (home : A → ℕ) (xs : List A) → list_all (λ x. home x == core) xs ≡ true → Each (λ x. sees W core (home x) ≡ true) xs

@@ -89,7 +89,7 @@ pub mod HeaderChecks
 pub mod SupertraitAnswers
 pub mod Partners
 pub mod DeclaredTrees
-mod CoveredClauses
+pub mod CoveredClauses
 mod RisingBounds
 pub mod KeptTexts
 mod RenumberedItems

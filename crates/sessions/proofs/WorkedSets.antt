@@ -1,5 +1,5 @@
 -- The worked set of crates of two texts.
-use Rattle.std.proofs.Common.{◌≡◌, ◌⊎◌, inl, inr, ℕ, zero, suc, Bool, true, false, not, ◌&&◌, ◌||◌, ◌==◌, List, [], ◌∷◌, map, length, refl, sym, ap, ◌∙◌, subst, None, arith}
+use Rattle.std.proofs.Common.{◌≡◌, ◌⊎◌, inl, inr, ℕ, zero, suc, Bool, true, false, not, ◌&&◌, ◌||◌, ◌==◌, List, [], ◌∷◌, map, fold, length, refl, sym, ap, ◌∙◌, subst, None, arith}
 use Rattle.std.specs.Prelude.{Ok, codes}
 use Rattle.std.specs.List.{list_all}
 use Rattle.type_terms.specs.Promised.Label.{adt}
@@ -22,15 +22,15 @@ use Rattle.type_terms.proofs.ViewLaws.{as-it-was}
 use Rattle.type_terms.proofs.SameNumbers.{holds-view}
 use Rattle.type_terms.proofs.TwoTexts.{exchanged, by-lists}
 use Rattle.text_language.specs.Tokens.{tokens_of}
-use Rattle.text_language.specs.Promised.Syntax.{named, no_args, no_types, Line, crate_line, struct_line, trait_line, impl_line}
+use Rattle.text_language.specs.Promised.Syntax.{named, no_args, no_types, WrittenLine, written_crate, written_struct, written_trait, written_impl}
 use Rattle.text_language.specs.Syntax.{no_params}
 use Rattle.text_language.specs.Promised.Declarations.{Declarations}
+use Rattle.text_language.specs.Promised.Desugared.{desugared}
 use Rattle.text_language.specs.Declarations.{nothing_declared}
 use Rattle.text_language.specs.Adding.{added}
-use Rattle.text_language.specs.Written.{IsWritten}
+use Rattle.text_language.specs.Written.{IsSpelled}
 use Rattle.text_language.specs.Promised.Written.{is_ascii, is_blank}
-use Rattle.text_language.specs.Faults.{fault_of}
-use Rattle.text_language.specs.Text.{TextGives, fits, LinesGive, ends, goes_on, adds}
+use Rattle.text_language.specs.Text.{TextGives, fits, LinesGive, ends, goes_on, adds, fault_written}
 use Rattle.type_terms.specs.Promised.Verdicts.{IsAccepted}
 use Rattle.overlap_check.proofs.Contracts.{apart-cleared}
 use Rattle.sessions.specs.Promised.CoherentTexts.{text_world}
@@ -42,41 +42,45 @@ use Rattle.sessions.proofs.JoinedTexts.{text-is-ordered, of-core}
 use Rattle.text_language.proofs.SameTexts.{text-says}
 
 -- ---- the lines
-abbrev crate : List ℕ → List (List ℕ) → Line
-crate n us = crate_line n us
+abbrev crate : List ℕ → List (List ℕ) → WrittenLine
+crate n us = written_crate n us
 
-abbrev struct : List ℕ → Line
-struct n = struct_line false n no_params no_types
+abbrev struct : List ℕ → WrittenLine
+struct n = written_struct false n no_params no_types
 
-abbrev show : Line
-show = trait_line false false (codes "Show") no_params []
+abbrev show : WrittenLine
+show = written_trait false false (codes "Show") no_params [] []
 
-abbrev shows : List ℕ → Line
-shows n = impl_line no_params (record { subject = named n no_args; bound = record { trait = codes "Show"; args = no_args } }) []
+abbrev shows : List ℕ → WrittenLine
+shows n = written_impl no_params (record { subject = named n no_args; bound = record { bound = record { trait = codes "Show"; args = no_args }; bindings = [] } }) []
+
+-- the declarations with the lines for which a line stands
+abbrev with-all : Declarations → WrittenLine → Declarations
+with-all d w = fold added d (desugared w)
 
 -- lines with what they say, each without a fault after the lines before it
-abbrev AreFine : List (List ℕ × Line) → Declarations → Type 0
+abbrev AreFine : List (List ℕ × WrittenLine) → Declarations → Type 0
 AreFine [] d = Unit {0}
-AreFine (s ∷ ss) d = (is_ascii s.0 ≡ true) × (is_blank s.0 ≡ false) × IsWritten s.0 s.1 × (fault_of d s.1 ≡ None) × AreFine ss (added d s.1)
+AreFine (s ∷ ss) d = (is_ascii s.0 ≡ true) × (is_blank s.0 ≡ false) × IsSpelled s.0 s.1 × (fault_written d s.0 s.1 ≡ None) × AreFine ss (with-all d s.1)
 
-abbrev bytes-of : List (List ℕ × Line) → List (List ℕ)
+abbrev bytes-of : List (List ℕ × WrittenLine) → List (List ℕ)
 bytes-of [] = []
 bytes-of (s ∷ ss) = s.0 ∷ bytes-of ss
 
-abbrev after : List (List ℕ × Line) → Declarations → Declarations
+abbrev after : List (List ℕ × WrittenLine) → Declarations → Declarations
 after [] d = d
-after (s ∷ ss) d = after ss (added d s.1)
+after (s ∷ ss) d = after ss (with-all d s.1)
 
-lines-give : (ss : List (List ℕ × Line)) (d : Declarations) (k : ℕ) → AreFine ss d → LinesGive d k (bytes-of ss) (Ok (after ss d))
+lines-give : (ss : List (List ℕ × WrittenLine)) (d : Declarations) (k : ℕ) → AreFine ss d → LinesGive d k (bytes-of ss) (Ok (after ss d))
 lines-give [] d k h = ends d k
-lines-give (s ∷ ss) d k h = goes_on d (added d s.1) k s.0 (bytes-of ss) (Ok (after ss (added d s.1))) (adds s.1 h.0 h.1 h.2 h.3) (lines-give ss (added d s.1) (suc k) h.4)
+lines-give (s ∷ ss) d k h = goes_on d (with-all d s.1) k s.0 (bytes-of ss) (Ok (after ss (with-all d s.1))) (adds s.1 h.0 h.1 h.2 h.3) (lines-give ss (with-all d s.1) (suc k) h.4)
 
-abbrev lines-with-aside : List (List ℕ × Line)
+abbrev lines-with-aside : List (List ℕ × WrittenLine)
 lines-with-aside =
     (codes "crate aside", crate (codes "aside") []) ∷ (codes "struct C", struct (codes "C")) ∷ (codes "crate first", crate (codes "first") []) ∷ (codes "trait Show", show)
     ∷ (codes "struct A", struct (codes "A")) ∷ (codes "impl Show for A", shows (codes "A")) ∷ []
 
-abbrev lines-with-second : List (List ℕ × Line)
+abbrev lines-with-second : List (List ℕ × WrittenLine)
 lines-with-second =
     (codes "crate first", crate (codes "first") []) ∷ (codes "trait Show", show) ∷ (codes "struct A", struct (codes "A")) ∷ (codes "impl Show for A", shows (codes "A"))
     ∷ (codes "crate second uses first", crate (codes "second") (codes "first" ∷ [])) ∷ (codes "struct B", struct (codes "B")) ∷ (codes "impl Show for B", shows (codes "B")) ∷ []
@@ -106,7 +110,7 @@ abbrev W : World
 W = text_world with-second
 
 abbrev numbers : Renumbering
-numbers = record { crates = exchanged 1 2; structs = exchanged 1 2; traits = same_numbers; impls = same_numbers }
+numbers = record { crates = exchanged 1 2; structs = exchanged 2 3; traits = same_numbers; impls = same_numbers }
 
 abbrev of-first : View
 of-first = record { numbers = numbers; asker = 2; world = view_in with-aside 2 }

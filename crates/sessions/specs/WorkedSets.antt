@@ -14,12 +14,12 @@ lines [] = []
 lines (l ∷ []) = l
 lines (l ∷ ls) = l ++ 10 ∷ lines ls
 
--- Here first is crate 2, and A is struct 2.
+-- Here first is crate 2, and A is struct 3.
 abbrev pub text_with_aside : List ℕ
 text_with_aside =
     lines (codes "crate aside" ∷ codes "struct C" ∷ codes "crate first" ∷ codes "trait Show" ∷ codes "struct A" ∷ codes "impl Show for A" ∷ [])
 
--- And here first is crate 1, and A is struct 1.
+-- And here first is crate 1, and A is struct 2.
 abbrev pub text_with_second : List ℕ
 text_with_second =
     lines
@@ -30,5 +30,5 @@ text_with_second =
 -- the numbers of the second text.
 abbrev pub CratesOfTwoTextsAreASet : Type 0
 CratesOfTwoTextsAreASet =
-    (d : Declarations) × (e : Declarations) × TextGives text_with_aside (Ok d) × TextGives text_with_second (Ok e) × (ρ : Renumbering) × (ρ.crates.to 2 ≡ 1) × (ρ.structs.to 2 ≡ 1)
+    (d : Declarations) × (e : Declarations) × TextGives text_with_aside (Ok d) × TextGives text_with_second (Ok e) × (ρ : Renumbering) × (ρ.crates.to 2 ≡ 1) × (ρ.structs.to 3 ≡ 2)
     × IsAnsweredSet (text_world e) (record { numbers = ρ; asker = 2; world = view_in d 2 } ∷ view_at (text_world e) 2 ∷ []) (λ n. n)
