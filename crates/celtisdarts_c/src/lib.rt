@@ -11,7 +11,7 @@
 //! | 3 | memory was refused |
 //! | 4 | a table of terms, goals or answers is full |
 //! | 5 | the buffer is too short: `needed` is the length of the output |
-//! | 6 | the line has no fault, but is no query |
+//! | 6 | the line is no query. It has no fault, unless it declares a trait or an impl with types: that is not said |
 //! | 7 | the line contains a newline |
 //! | 8 | the text and the line together exceed the limit of texts |
 //! | 9 | the text has no crate of this number |

@@ -6,7 +6,7 @@ use Rattle.std.proofs.lemmas.Option.{same_Some}
 use Rattle.sessions.specs.TypeTerms.Promised.Trees.{erase}
 use Rattle.sessions.specs.TextLanguage.Promised.Declarations.{Declarations, NamedCrate, Question}
 use Rattle.sessions.specs.TextLanguage.Names.{answer_values}
-use Rattle.sessions.specs.TextLanguage.Output.{Answer, ValueText, output_text}
+use Rattle.sessions.specs.TextLanguage.Output.{Answer, ValueText, overlap, output_text}
 use Rattle.sessions.specs.TypeTerms.Promised.Handles.{arg_trees}
 use Rattle.sessions.specs.TypeTerms.Promised.Handles.{Entry}
 use Rattle.sessions.specs.TypeTerms.declared.kinds.GenericArgKind.{GenericArgKind}
@@ -16,7 +16,8 @@ use Rattle.sessions.specs.Promised.Releases as releases
 use Rattle.sessions.specs.Promised.Releases.{IsSectionOf, IsLaterAnswer, IsSupersAnswer}
 use Rattle.sessions.specs.Promised.Subjects.{Subject, AsksProof, AsksRefutation}
 use Rattle.sessions.specs.Verdicts.{Verdict}
-use Rattle.coherence.specs.Promised.CrateAnswers.{crate_text, number_in_crate}
+use Rattle.coherence.specs.Promised.CheckAnswers.{number_in_section}
+use Rattle.coherence.specs.Promised.CrateAnswers.{crate_text, impl_home, number_in_crate}
 
 pub verdict-of : (s : Subject) (d : Declarations) (c : ℕ) (v : Verdict) → s.declarations ≡ d → s.of_crate ≡ c → IsVerdictOf s.depth s.declarations s.of_crate v → IsVerdictOf s.depth d c v
 verdict-of s d c v e f h = subst (λ k. IsVerdictOf s.depth d k v) f (subst (λ (x : Declarations). IsVerdictOf s.depth x s.of_crate v) e h)
@@ -62,3 +63,16 @@ named-line line d c n text h e = e ∙ ap (λ m. output_text (line m)) (sym (nam
 pub numbered-line : (line : List ℕ → ℕ → Answer) (d : Declarations) (c k m : ℕ) (n text : List ℕ) → option_map (λ x. x.text) (slice_get d.crates c) ≡ Some n → m ≡ number_in_crate d k → text ≡ output_text (line n m)
     → text ≡ output_text (line (crate_text d c) (number_in_crate d k))
 numbered-line line d c k m n text h is e = named-line (λ x. line x m) d c n text h e ∙ ap (λ i. output_text (line (crate_text d c) i)) is
+
+-- ... and of an impl of a section
+pub section-line : (line : List ℕ → ℕ → Answer) (d : Declarations) (c k i m : ℕ) (n text : List ℕ) → option_map (λ x. x.text) (slice_get d.crates c) ≡ Some n → m ≡ number_in_section d k i → text ≡ output_text (line n m)
+    → text ≡ output_text (line (crate_text d c) (number_in_section d k i))
+section-line line d c k i m n text h is e = named-line (λ x. line x m) d c n text h e ∙ ap (λ j. output_text (line (crate_text d c) j)) is
+
+-- ... and of two impls, with the crate of the other
+pub pair-answer : (d : Declarations) (c k j a b : ℕ) (n o : List ℕ) → option_map (λ x. x.text) (slice_get d.crates c) ≡ Some n → a ≡ number_in_crate d k → o ≡ crate_text d (impl_home d j) → b ≡ number_in_crate d j
+    → overlap n a o b ≡ overlap (crate_text d c) (number_in_crate d k) (crate_text d (impl_home d j)) (number_in_crate d j)
+pair-answer d c k j a b n o h e f g =
+    ap (λ m. overlap m a o b) (sym (name-of d c n h)) ∙ ap (λ m. overlap (crate_text d c) m o b) e
+    ∙ ap (λ t. overlap (crate_text d c) (number_in_crate d k) t b) f
+    ∙ ap (λ m. overlap (crate_text d c) (number_in_crate d k) (crate_text d (impl_home d j)) m) g

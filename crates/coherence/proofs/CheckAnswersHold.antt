@@ -28,7 +28,7 @@ use Rattle.sessions.specs.Promised.Releases as releases
 use Rattle.sessions.specs.Promised.Releases.{StopsAt, given_clauses}
 use Rattle.sessions.specs.Promised.Subjects.{IsOfText}
 use Rattle.sessions.proofs.OpaqueTerms.{reference-opaque-erased}
-use Rattle.coherence.specs.Promised.CheckAnswers.{header_supers, StopsWith, CheckAnswer, says_compatible, says_breaking, says_held, says_stopped}
+use Rattle.coherence.specs.Promised.CheckAnswers.{header_supers, number_in_section, StopsWith, CheckAnswer, says_compatible, says_breaking, says_held, says_stopped}
 use Rattle.coherence.specs.Promised.CrateAnswers.{crate_text, number_in_crate}
 use Rattle.coherence.specs.Lines.{IsCheckLine, of_version, of_headers, IsQuestionLine, of_prove, of_refute}
 use Rattle.coherence.specs.Promised.ProvedAnswers.{QuestionAnswer, says_proved, says_refuted}
@@ -119,8 +119,8 @@ module _ (limit : ℕ) (d : Declarations) (text : IsOfText d) where
   check-told _ _ (of_version k c releases.compatible h) =
       subst (CheckAnswer limit d (of_later k c)) (sym (append_assoc (codes "later " ++ crate_text d c) (codes ": ") (codes "compatible"))) (says_compatible k c h)
   check-told _ _ (of_version k c (releases.breaking n) h) =
-      subst (λ t. CheckAnswer limit d (of_later k c) (t ++ decimal n)) (sym (append_assoc (codes "later " ++ crate_text d c) (codes ": ") (codes "breaking impl ")))
-      (subst (λ m. CheckAnswer limit d (of_later k c) (codes "later " ++ crate_text d c ++ codes ": breaking impl " ++ decimal m)) (one-back n h.counted)
+      subst (λ t. CheckAnswer limit d (of_later k c) (t ++ decimal (number_in_section d k n))) (sym (append_assoc (codes "later " ++ crate_text d c) (codes ": ") (codes "breaking impl ")))
+      (subst (λ m. CheckAnswer limit d (of_later k c) (codes "later " ++ crate_text d c ++ codes ": breaking impl " ++ decimal (number_in_section d k m))) (one-back n h.counted)
       (says_breaking k c (n - 1) h.found h.there h.breaks h.before))
   check-told _ _ (of_headers c releases.held h) =
       subst (CheckAnswer limit d (of_supers c)) (sym (append_assoc (codes "supers " ++ crate_text d c) (codes ": ") (codes "held"))) (says_held c h)

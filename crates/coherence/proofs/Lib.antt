@@ -29,3 +29,4 @@ pub mod SourceLines
 pub mod FullTables
 pub mod Asking
 pub mod QueryValues
+pub mod ImplNumbers

@@ -1,14 +1,14 @@
 -- The impls that a verdict or a check names are there.
-use Rattle.std.proofs.Common.{◌≡◌, ℕ, ◌<◌, length, sym, ap, ◌∙◌, subst}
+use Rattle.std.proofs.Common.{◌≡◌, ℕ, ◌-◌, ◌<◌, ◌≤◌, length, sym, ap, ◌∙◌, subst, arith}
 use Rattle.std.proofs.lemmas.Option.{slice_get_within}
 use Rattle.sessions.specs.TypeTerms.Promised.Worlds.{ImplDecl, sees, view_of}
 use Rattle.sessions.specs.TypeTerms.Promised.Erased.{erased_world, erased_impl}
 use Rattle.sessions.specs.TypeTerms.Promised.Proofs.{In}
 use Rattle.sessions.proofs.TypeTerms.Members.{in-filter}
-use Rattle.sessions.specs.TextLanguage.Promised.Declarations.{Declarations, NamedImpl, world_of}
+use Rattle.sessions.specs.TextLanguage.Promised.Declarations.{Declarations, NamedImpl, section_impls, world_of}
 use Rattle.sessions.specs.TextTables.Numbered.{IsNumbered}
 use Rattle.sessions.specs.Promised.Promises.{IsVerdictOf, view_in}
-use Rattle.sessions.specs.Promised.Releases.{StopsAt}
+use Rattle.sessions.specs.Promised.Releases.{IsFirstBreaking, StopsAt}
 use Rattle.sessions.specs.Verdicts.{Verdict, accepted, orphan, overlap}
 use Rattle.coherence.specs.KeptLines.{NamesImpls}
 use Rattle.coherence.proofs.ImplParams.{unmapped as mapped}
@@ -42,3 +42,7 @@ declared-place d c i n h =
 
 pub names-stopped : (limit : ℕ) (d : Declarations) (c k j : ℕ) → IsNumbered d → StopsAt limit d c k j → k < length d.impls
 names-stopped limit d c k j n h = subst (λ m. m < length d.impls) h.stops.named (declared-place d c h.stops.found n h.stops.stands)
+
+-- and the first impl of a section that may not be added
+pub names-added : (d : Declarations) (c k n : ℕ) → IsFirstBreaking d c k n → n ≤ length (section_impls d k)
+names-added d c k n h = let within = slice_get_within (section_impls d k) (n - 1) h.found h.there in omega (arith, within)

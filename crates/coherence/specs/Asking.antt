@@ -1,5 +1,5 @@
 -- A text that is asked at run time.
-use Rattle.std.specs.Prelude.{◌≡◌, ℕ, ◌+◌, ◌-◌, ◌<◌, ◌≤◌, List, length, Ok, Err, refl}
+use Rattle.std.specs.Prelude.{◌≡◌, ℕ, ◌+◌, ◌-◌, ◌<◌, ◌≤◌, ◌⊎◌, List, length, Ok, Err, refl}
 use Rattle.std.specs.Coded.{Coded, code_by, coded_ℕ, coded×}
 use Rattle.sessions.specs.TypeTerms.declared.Fault.{Fault}
 use Rattle.sessions.specs.TypeTerms.declared.Fault.TheVariants as wants
@@ -49,10 +49,11 @@ pub record IsQueryBehind (d : Declarations) (text_length : ℕ) (line : List ℕ
   pub gives : LineGives d line (Ok (with_question d (question_of q)))
 
 -- The fault is the line's, or that it gives no question, that it isn't one line, or that the text has no room for it; or the search
--- wants memory or room.
+-- wants memory or room. A line that gives no question has no fault, but for a declaration with types, of which that is not said.
 abbrev pub IsAskFault : Declarations → ℕ → List ℕ → AskFault → Type 0
 IsAskFault d n line (faults.Line k) = LineGives d line (Err (fault_number k))
-IsAskFault d n line faults.NotAQuery = (e : Declarations) × LineGives d line (Ok e) × (e.questions ≡ d.questions)
+IsAskFault d n line faults.NotAQuery =
+    ((e : Declarations) × LineGives d line (Ok e) × (e.questions ≡ d.questions)) ⊎ ((e : Declarations) → LineGives d line (Ok e) → e.questions ≡ d.questions)
 IsAskFault d n line faults.SeveralLines = IsOneLine line → ⊥
 IsAskFault d n line faults.TooLong = text_limit < n + 1 + length line
 IsAskFault d n line faults.Memory = Unit {0}

@@ -11,6 +11,7 @@ use Rattle.sessions.specs.QuestionAnswers as answers
 use Rattle.sessions.specs.Promised.Releases as releases
 use Rattle.sessions.specs.Promised.Releases.{IsLaterAnswer, IsSupersAnswer}
 use Rattle.sessions.specs.Verdicts as verdicts
+use Rattle.coherence.specs.Promised.CheckAnswers.{number_in_section}
 use Rattle.coherence.specs.Promised.CrateAnswers.{crate_text, impl_home, number_in_crate}
 
 -- A type of its header. A variable has the name of the parameter that it stands for.
@@ -27,9 +28,9 @@ verdict_line d c (verdicts.orphan k e) = orphan_line d c k e
 verdict_line d c (verdicts.overlap k j) = overlap (crate_text d c) (number_in_crate d k) (crate_text d (impl_home d j)) (number_in_crate d j)
 
 -- ---- the line of a check
-abbrev pub later_line : Declarations → ℕ → releases.LaterAnswer → Answer
-later_line d c releases.compatible = compatible (crate_text d c)
-later_line d c (releases.breaking n) = breaking (crate_text d c) n
+abbrev pub later_line : Declarations → ℕ → ℕ → releases.LaterAnswer → Answer
+later_line d k c releases.compatible = compatible (crate_text d c)
+later_line d k c (releases.breaking n) = breaking (crate_text d c) (number_in_section d k n)
 
 abbrev pub supers_line : Declarations → ℕ → releases.SupersAnswer → Answer
 supers_line d c releases.held = held (crate_text d c)
@@ -38,7 +39,7 @@ supers_line d c (releases.undecided k j) = undecided (crate_text d c) (number_in
 
 -- The same, with an answer that is right.
 pub data IsCheckLine (limit : ℕ) (d : Declarations) : Check → Answer → Type 0 where
-  of_version : (k c : ℕ) (a : releases.LaterAnswer) → IsLaterAnswer d c k a → IsCheckLine limit d (of_later k c) (later_line d c a)
+  of_version : (k c : ℕ) (a : releases.LaterAnswer) → IsLaterAnswer d c k a → IsCheckLine limit d (of_later k c) (later_line d k c a)
   of_headers : (c : ℕ) (a : releases.SupersAnswer) → IsSupersAnswer limit d c a → IsCheckLine limit d (of_supers c) (supers_line d c a)
 
 -- ---- the line of a query, by its number from 1

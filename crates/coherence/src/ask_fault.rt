@@ -13,7 +13,8 @@ pub enum AskFault {
     /// The line has this fault: of all that apply the one with the smallest number.
     #[error("the line has a fault")]
     Line(FaultKind),
-    /// The line has no fault and asks nothing: it is empty, a comment, a declaration or a check.
+    /// The line asks nothing: it is empty, a comment, a declaration or a check. It has no fault, unless it declares a trait or an impl with
+    /// types: whether such a line has a fault is not said.
     #[error("the line asks nothing")]
     NotAQuery,
     /// A byte in it ends a line.

@@ -221,6 +221,7 @@ fn query_behind(
         QueryLine::Query(entry) => Ok(entry),
         QueryLine::Faulty(kind) => Err(AskFault::Line(kind)),
         QueryLine::Other => Err(AskFault::NotAQuery),
+        QueryLine::Declared => Err(AskFault::NotAQuery),
     }
 }
 

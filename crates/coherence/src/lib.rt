@@ -7,6 +7,7 @@ mod ask_fault;
 mod asker;
 mod coherent;
 mod groups;
+mod impl_numbers;
 mod kept;
 mod kept_sessions;
 mod lines;

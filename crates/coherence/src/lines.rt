@@ -14,10 +14,11 @@ ghost use Rattle.sessions.specs.Promised.Releases.{IsSectionOf};
 ghost use Rattle.sessions.specs.Promised.Shortages.{SessionFullAtLimit};
 ghost use Rattle.sessions.specs.Promised.Subjects.{IsOfText, AsksProof, AsksRefutation, StaysOn};
 ghost use Rattle.coherence.specs.Groups.{IsAskedIn, IsCheckedIn};
-ghost use Rattle.coherence.specs.Promised.CrateAnswers.{crate_text, impl_home, number_in_crate};
+ghost use Rattle.coherence.specs.Promised.CrateAnswers.{crate_text, impl_home};
 ghost use Rattle.coherence.specs.Lines.{header_text, orphan_line, verdict_line};
 ghost use Rattle.coherence.specs.KeptLines.{NamesImpls, HasCheckLine, IsCheckLineOf, HasLine, IsLineOf};
 
+use crate::impl_numbers::{number_in_crate, number_in_section};
 use crate::listener::Listener;
 use crate::named_answer::{named_answer, print_named};
 use sessions::text_tables::{Asked, Check, ENTRY_LIMIT, Workspace};
@@ -29,15 +30,6 @@ use sessions::{
 };
 use std::alloc::{AllocError, Global};
 use text_printer::{Answer, HeaderNames, print_line, print_type};
-
-/// The number of an impl among those of its crate, from 1.
-fn number_in_crate(workspace: &Workspace, id: ImplId) -> u32
-    requires { id.index < length workspace.now.impls }
-    ensures { result ≡ number_in_crate workspace.now id.index }
-{
-    let (_owner, number) = workspace.impl_place(id);
-    number
-}
 
 /// The name of an impl's crate.
 fn owner_name(workspace: &Workspace, id: ImplId) -> &[u8]
@@ -199,7 +191,10 @@ fn later_line(
     let name = workspace.crate_name(changed);
     let line = match answer {
         LaterAnswer::Compatible => print_line(alloc, &Answer::Compatible { name })?,
-        LaterAnswer::Breaking(number) => print_line(alloc, &Answer::Breaking { name, number })?,
+        LaterAnswer::Breaking(place) => {
+            let number = number_in_section(workspace, section, place);
+            print_line(alloc, &Answer::Breaking { name, number })?
+        }
     };
     Ok(line)
 }

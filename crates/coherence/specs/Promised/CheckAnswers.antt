@@ -1,5 +1,5 @@
 -- The text of the line of each check, without its end, with what it promises.
-use Rattle.std.specs.Prelude.{◌≡◌, ℕ, suc, ◌+◌, ◌<◌, false, if◌then◌else◌, List, [], ◌∷◌, ◌++◌, map, length, take, drop, Some, slice_get, codes}
+use Rattle.std.specs.Prelude.{◌≡◌, ℕ, suc, ◌+◌, ◌<◌, false, if◌then◌else◌, List, [], ◌∷◌, ◌++◌, map, length, take, drop, count_by, Some, slice_get, codes}
 use Rattle.std.specs.Fmt.{decimal}
 use Rattle.std.specs.List.{fold, list_any}
 use Rattle.sessions.specs.TypeTerms.Promised.Answers.{IsDeterminate}
@@ -13,7 +13,7 @@ use Rattle.sessions.specs.TypeTerms.Promised.Versions.{Added, is_addable}
 use Rattle.sessions.specs.TypeTerms.Promised.Worlds.{World, Reference, ImplDecl}
 use Rattle.sessions.specs.TextLanguage.Promised.Declarations.{Declarations, NamedImpl, Check, of_later, of_supers, section_impls}
 use Rattle.sessions.specs.Promised.Promises.{view_in}
-use Rattle.coherence.specs.Promised.CrateAnswers.{crate_text, number_in_crate}
+use Rattle.coherence.specs.Promised.CrateAnswers.{crate_text, is_written, number_in_crate}
 
 -- ---- the supertraits of a header that a check evaluates
 
@@ -50,6 +50,10 @@ pub record StopsWith (limit : ℕ) (d : Declarations) (c k j : ℕ) : Type 0 whe
   pub before : Every (HasProof (view_in d c) (map opaque_reference (erased_impl found.item).clauses)) (take j (header_supers (view_in d c) found.item))
   pub not_determinate : IsDeterminate limit (view_in d c) (map opaque_reference (erased_impl found.item).clauses) super → ⊥
 
+-- The number of impl n of section k, both counted from 1. The number counts those that the text has.
+abbrev pub number_in_section : Declarations → ℕ → ℕ → ℕ
+number_in_section d k n = count_by (is_written d) (take n (section_impls d k))
+
 -- A later version of crate c may add all impls of section k, or number n, counted from 0, is the first that it may not add. The supertraits
 -- of the crate's headers have proofs, or a check stopped, and then both words promise the same.
 pub data CheckAnswer (limit : ℕ) (d : Declarations) : Check → List ℕ → Type 0 where
@@ -57,7 +61,7 @@ pub data CheckAnswer (limit : ℕ) (d : Declarations) : Check → List ℕ → T
       → CheckAnswer limit d (of_later k c) (codes "later " ++ crate_text d c ++ codes ": compatible")
   says_breaking : (k c n : ℕ) (i : NamedImpl) → slice_get (section_impls d k) n ≡ Some i → is_addable (view_in d c) c (erased_impl i.item).header ≡ false
       → Every (λ e. Added (view_in d c) c (erased_impl e.item)) (take n (section_impls d k))
-      → CheckAnswer limit d (of_later k c) (codes "later " ++ crate_text d c ++ codes ": breaking impl " ++ decimal (n + 1))
+      → CheckAnswer limit d (of_later k c) (codes "later " ++ crate_text d c ++ codes ": breaking impl " ++ decimal (number_in_section d k (n + 1)))
   says_held : (c : ℕ) → IsHeld (view_in d c) c → CheckAnswer limit d (of_supers c) (codes "supers " ++ crate_text d c ++ codes ": held")
   says_stopped : (c k j : ℕ) (w : List ℕ) → In w (codes "missing" ∷ codes "undecided" ∷ []) → StopsWith limit d c k j → CheckAnswer limit d (of_supers c)
       (codes "supers " ++ crate_text d c ++ codes ": " ++ w ++ codes " impl " ++ decimal (number_in_crate d k) ++ codes " clause " ++ decimal (j + 1))

@@ -11,7 +11,8 @@ use Rattle.sessions.specs.TypeTerms.Promised.Trees.{Trees, none, tree}
 use Rattle.sessions.specs.TypeTerms.Promised.Versions.{is_open_place}
 use Rattle.sessions.specs.TypeTerms.Promised.Walks.{Met, struct_is, visited, ends_local, keeps_orphan_rule}
 use Rattle.sessions.specs.TypeTerms.Promised.Worlds.{World, ImplDecl, core}
-use Rattle.sessions.specs.TextLanguage.Promised.Declarations.{Declarations}
+use Rattle.sessions.specs.TextLanguage.Promised.Declarations.{Declarations, NamedImpl}
+use Rattle.sessions.specs.TextLanguage.Promised.Desugared.{is_companion}
 use Rattle.sessions.specs.TextLanguage.Promised.PrintedTypes.{final_text, printed_trees}
 use Rattle.sessions.specs.TypeTerms.Promised.Verdicts.{IsCleared}
 use Rattle.sessions.specs.Promised.Promises.{view_in}
@@ -52,9 +53,14 @@ crate_text d c = option_map_or (λ n. n.text) (slice_get d.crates c) []
 abbrev pub impl_home : Declarations → ℕ → ℕ
 impl_home d k = option_map_or (λ i. i.item.home) (slice_get d.impls k) core
 
--- Its number among those of its crate, from 1.
+-- Whether the text has the impl as it stands here. An impl that gives types stands for several: for itself, and behind that for one of
+-- each companion.
+abbrev pub is_written : Declarations → NamedImpl → Bool
+is_written d i = not (is_companion d i.item.header.trait)
+
+-- Its number among those of its crate that the text has, from 1. An impl of a companion has the number of the impl that gives the type.
 abbrev pub number_in_crate : Declarations → ℕ → ℕ
-number_in_crate d k = count_by (λ i. i.item.home == impl_home d k) (take (suc k) d.impls)
+number_in_crate d k = count_by (λ i. (i.item.home == impl_home d k) && is_written d i) (take (suc k) d.impls)
 
 -- What comes after `crate N: `, and what it promises. All headers are judged before any pair that the crate brings together.
 pub data CrateAnswer (limit : ℕ) (d : Declarations) (c : ℕ) : List ℕ → Type 0 where

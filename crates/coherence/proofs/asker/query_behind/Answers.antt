@@ -1,4 +1,4 @@
-use Rattle.std.proofs.Common.{◌≡◌, true, arith, rules, subst, sym}
+use Rattle.std.proofs.Common.{◌≡◌, true, inl, inr, arith, rules, subst, sym}
 use Rattle.sessions.specs.TextLanguage.Promised.Declarations.{Declarations}
 use Rattle.sessions.specs.TextTables.Numbered.{IsFew}
 use Rattle.coherence.specs.declared.ask_fault.AskFault.TheVariants.{Memory}
@@ -22,4 +22,7 @@ pub returns-in-Faulty-clause-fault : goal.returns-in-Faulty-clause-fault
 returns-in-Faulty-clause-fault c = query-at _ _ c.args.line.now _ _ c.tables.ensures.declared c.in-Faulty.is c.in_ok-entry.ensures
 
 pub returns-in-Other-clause-fault : goal.returns-in-Other-clause-fault
-returns-in-Other-clause-fault c = query-at _ _ c.args.line.now _ _ c.tables.ensures.declared c.in-Other.is c.in_ok-entry.ensures
+returns-in-Other-clause-fault c = inl (query-at _ _ c.args.line.now _ _ c.tables.ensures.declared c.in-Other.is c.in_ok-entry.ensures)
+
+pub returns-in-Declared-clause-fault : goal.returns-in-Declared-clause-fault
+returns-in-Declared-clause-fault c = inr (query-at _ _ c.args.line.now _ _ c.tables.ensures.declared c.in-Declared.is c.in_ok-entry.ensures)
