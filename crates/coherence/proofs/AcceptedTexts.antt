@@ -1,4 +1,5 @@
--- Where each crate's line says `accepted`, each crate is; and where each has a line that says `held`, its supertraits are.
+-- Where each crate's line says `accepted`, each crate is; and where each has a line that says `held`, its supertraits are. So the text is
+-- coherent, and its types of traits have one value.
 use Rattle.std.proofs.Common.{◌≡◌, ◌++◌, ℕ, List, Ok, refl, sym}
 use Rattle.std.specs.Prelude.{codes}
 use Rattle.std.specs.List.{AllZip}
@@ -11,6 +12,7 @@ use Rattle.coherence.specs.Promised.Told.{crate_topic, check_topic, topics, line
 use Rattle.coherence.proofs.CheckAnswersHold.{held-answer}
 use Rattle.coherence.proofs.CrateAnswersHold.{accepted-answer}
 use Rattle.coherence.proofs.Topics.{at-one-place}
+use Rattle.coherence.proofs.ValuesAreOne.{values-are-one}
 
 module _ (limit : ℕ) (d : Declarations) (ls : List (List ℕ)) (told : AllZip (TellsTopic limit) (topics (Ok d)) ls) where
   same-line : (c : ℕ) (t u : List ℕ) → line_of_crate d c t ≡ line_of_crate d c u → t ≡ u
@@ -30,8 +32,10 @@ module _ (limit : ℕ) (d : Declarations) (ls : List (List ℕ)) (told : AllZip 
 
 pub accepted-texts-hold : AcceptedTextsAreCoherent → AcceptedTextsHold SupertraitsStand
 accepted-texts-hold coherent limit bytes d ls says told accepted supers =
-    coherent d (bytes, says) (all-accepted limit d ls told accepted) supers
+    let whole = coherent d (bytes, says) (all-accepted limit d ls told accepted) supers in
+    (whole, values-are-one bytes d says whole)
 
 pub held-texts-hold : HeldTextsAreCoherent → AcceptedTextsHold AllSayHeld
 held-texts-hold coherent limit bytes d ls says told accepted held =
-    coherent d (bytes, says) (all-accepted limit d ls told accepted) (all-held limit d ls told held)
+    let whole = coherent d (bytes, says) (all-accepted limit d ls told accepted) (all-held limit d ls told held) in
+    (whole, values-are-one bytes d says whole)

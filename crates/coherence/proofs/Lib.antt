@@ -23,6 +23,16 @@ pub mod SupersInTurn
 pub mod OpaqueHeaders
 pub mod AskedHeaders
 pub mod CheckAnswersHold
+mod OneValue
+mod SpelledNames
+mod SameTerms
+mod Found
+mod CompanionTraits
+mod CompanionPairs
+mod CompanionImpls
+mod CompanionsStand
+mod TypeValues
+mod ValuesAreOne
 pub mod AcceptedTexts
 pub mod Told
 pub mod SourceLines

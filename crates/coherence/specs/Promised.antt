@@ -4,3 +4,4 @@ pub mod CrateAnswers
 pub mod ProvedAnswers
 pub mod Streams
 pub mod Told
+pub mod Values

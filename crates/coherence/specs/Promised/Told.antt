@@ -14,6 +14,7 @@ use Rattle.coherence.specs.Promised.CheckAnswers.{CheckAnswer}
 use Rattle.coherence.specs.Promised.CrateAnswers.{CrateAnswer, crate_text}
 use Rattle.coherence.specs.Promised.ProvedAnswers.{QuestionAnswer}
 use Rattle.coherence.specs.Promised.Streams.{AppendsPrefix}
+use Rattle.coherence.specs.Promised.Values.{ValuesAreOne}
 
 -- `Done` for a text without fault, else `TextFault`.
 abbrev pub status_of : Result Declarations (ℕ × ℕ) → Status
@@ -84,9 +85,9 @@ AllSayHeld d ls =
 abbrev pub SupertraitsStand : Declarations → List (List ℕ) → Type 0
 SupertraitsStand d ls = HeadersHaveSupertraits (text_world d)
 
--- If all lines say `accepted`, and P holds, the text is coherent as a whole: no concrete trait reference has proofs by two impls, and the
--- lines of its queries hold for all its crates together.
+-- If all lines say `accepted`, and P holds, the text is coherent as a whole: no concrete trait reference has proofs by two impls, the lines
+-- of its queries hold for all its crates together, and a type of a trait has one value.
 abbrev pub AcceptedTextsHold : (Declarations → List (List ℕ) → Type 0) → Type 0
 AcceptedTextsHold P =
     (limit : ℕ) (bytes : List ℕ) (d : Declarations) (ls : List (List ℕ)) → TextSays bytes (Ok d) → AllZip (TellsTopic limit) (topics (Ok d)) ls → AllSayAccepted d ls → P d ls
-    → TextIsCoherent d
+    → TextIsCoherent d × ValuesAreOne d
