@@ -106,13 +106,16 @@ pub(crate) fn tell_fault(
 {
     let message = plain(message(fault.kind));
     let mut telling = Telling::begin(alloc, Level::Error, None, message);
-    tell_offence(text, file, fault, above, &mut telling);
+    let own_message = tell_offence(text, file, fault, above, &mut telling);
     if let Some(advice) = advice(fault.kind) {
         telling.help(plain(advice));
     }
     let heading = Piece::Text(heading(fault.kind));
     telling.help(with_one("the rule: docs/FORMAT.md, `{}`", heading));
     let mut told = telling.finish()?;
+    if let Some(message) = own_message {
+        told.message = String::from_str(alloc, message)?;
+    }
     told.level = Level::Error;
     told.code = code(fault.kind);
     Ok(told)

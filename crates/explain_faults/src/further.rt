@@ -14,7 +14,6 @@ use crate::similar::similar_word;
 use explain_diagnostics::{Diagnostic, SourceFile, text_of, token_places};
 use messages::{Piece, sentence_text, with_two};
 use std::alloc::{AllocError, Global};
-use text_lines::Statement;
 use text_names::FaultKind;
 use text_parser::{TEXT_LIMIT, TextError, TextFault, parse};
 use text_tables::Workspace;
@@ -97,26 +96,13 @@ fn begins_block(alloc: Global, line: &[u8]) -> Result<bool, AllocError> {
     Ok(begins)
 }
 
-/// Whether a line declares something in the crate or the section that is open.
-fn is_item(statement: &Statement<'_>) -> bool {
-    matches!(
-        statement,
-        Statement::Struct { .. } | Statement::Trait { .. } | Statement::Impl { .. }
-    )
-}
-
-/// Whether a line begins a crate or a section.
-fn is_beginning(statement: &Statement<'_>) -> bool {
-    matches!(statement, Statement::Crate { .. } | Statement::Later { .. })
-}
-
 impl<'t> FaultlessText<'t> {
     /// Remembers the names in a line.
     fn mention(&mut self, alloc: Global, line: &'t [u8]) -> Result<(), AllocError> {
         let read = read_words(alloc, line)?;
         self.is_vague = self.is_vague || read.words.is_empty();
         for word in &read.words {
-            if word.class == b'@' {
+            if word.class == b'@' && !word.is_type_name() {
                 let is_own = word.used_as == "@own";
                 self.mentioned.push(Mention {
                     name: word.text,
@@ -146,10 +132,10 @@ impl<'t> FaultlessText<'t> {
         for before in first..count {
             let number = before.saturating_add(1);
             if let Some(read) = reading(alloc, self.file.line(number))? {
-                if is_beginning(&read.statement) {
+                if read.is_beginning() {
                     break;
                 }
-                if is_item(&read.statement) {
+                if read.is_item() {
                     self.leave_out(alloc, number)?;
                 }
             }

@@ -10,20 +10,20 @@ use text_lines::{Token, tokens};
 /// A part begins with a capital letter. `@` stands before what a name is used as, `'` before what a lifetime, `?` a variable, `#` a number
 /// and `%` a primitive type; any other symbol is the token itself. A way begins with a token, or with `Type`, or is empty: then the part may
 /// be left out. The rows are texts, since the prover reads a table of lists slowly.
-static GRAMMAR: [&str; 92] = [
+static GRAMMAR: [&str; 113] = [
     "Line crate @own Uses",
     "Line fundamental Fundamental",
     "Line struct @own Params Fields",
-    "Line auto trait @own Params Bounds",
-    "Line trait @own Params Bounds",
-    "Line impl Params @trait Args for Type Where",
-    "Line prove in @crate Params Type : @trait Args MoreAsked",
-    "Line refute in @crate Params Type : @trait Args MoreClauses",
+    "Line auto trait @own Params Bounds Types",
+    "Line trait @own Params Bounds Types",
+    "Line impl Params @trait Args for Type Where Given",
+    "Line prove in @crate Params Type : @trait BoundArgs MoreAsked",
+    "Line refute in @crate Params Type : @trait BoundArgs MoreClauses",
     "Line later @crate",
     "Line supers in @crate",
     "Fundamental struct @own Params Fields",
-    "Fundamental auto trait @own Params Bounds",
-    "Fundamental trait @own Params Bounds",
+    "Fundamental auto trait @own Params Bounds Types",
+    "Fundamental trait @own Params Bounds Types",
     "Uses uses @crate MoreUses",
     "Uses",
     "MoreUses , @crate MoreUses",
@@ -32,17 +32,25 @@ static GRAMMAR: [&str; 92] = [
     "Fields",
     "MoreFields , Type MoreFields",
     "MoreFields )",
-    "Bounds : @trait Args MoreBounds",
+    "Bounds : @trait BoundArgs MoreBounds",
     "Bounds",
-    "MoreBounds + @trait Args MoreBounds",
+    "MoreBounds + @trait BoundArgs MoreBounds",
     "MoreBounds",
-    "MoreAsked , Type : @trait Args MoreAsked",
-    "MoreAsked where Type : @trait Args MoreClauses",
+    "Types { type @item ; MoreTypes",
+    "Types",
+    "MoreTypes type @item ; MoreTypes",
+    "MoreTypes }",
+    "MoreAsked , Type : @trait BoundArgs MoreAsked",
+    "MoreAsked where Type : @trait BoundArgs MoreClauses",
     "MoreAsked",
-    "Where where Type : @trait Args MoreClauses",
+    "Where where Type : @trait BoundArgs MoreClauses",
     "Where",
-    "MoreClauses , Type : @trait Args MoreClauses",
+    "MoreClauses , Type : @trait BoundArgs MoreClauses",
     "MoreClauses",
+    "Given { type @given = Type ; MoreGiven",
+    "Given",
+    "MoreGiven type @given = Type ; MoreGiven",
+    "MoreGiven }",
     "Params < Param",
     "Params",
     "Param 'param BehindLifetime",
@@ -63,6 +71,19 @@ static GRAMMAR: [&str; 92] = [
     "Arg 'used",
     "Arg #argument",
     "Arg Type",
+    "BoundArgs < BoundArg",
+    "BoundArgs",
+    "BoundArg 'used MoreBoundArgs",
+    "BoundArg #argument MoreBoundArgs",
+    "BoundArg @type BehindName",
+    "BoundArg Type MoreBoundArgs",
+    "BehindName < Arg MoreArgs MoreBoundArgs",
+    "BehindName = Type MoreBindings",
+    "BehindName MoreBoundArgs",
+    "MoreBoundArgs , BoundArg",
+    "MoreBoundArgs >",
+    "MoreBindings , @binding = Type MoreBindings",
+    "MoreBindings >",
     "Type %primitive",
     "Type !",
     "Type ?variable",
@@ -129,9 +150,14 @@ impl Word<'_> {
         )
     }
 
+    /// Whether it is the name of a type of a trait.
+    pub(crate) fn is_type_name(self) -> bool {
+        matches!(self.used_as, "@item" | "@given" | "@binding")
+    }
+
     /// Whether it uses a name or a lifetime.
     pub(crate) fn uses(self) -> bool {
-        matches!(self.class, b'@' | b'\'') && !self.declares()
+        matches!(self.class, b'@' | b'\'') && !self.declares() && !self.is_type_name()
     }
 }
 
@@ -247,7 +273,8 @@ impl Reading {
         for row in &GRAMMAR {
             let (name, symbols) = first_symbol(row);
             let (first, _) = first_symbol(symbols);
-            if name == part && !first.is_empty() && !is_part(first) {
+            // A name as an argument of a bound is a type.
+            if name == part && !first.is_empty() && !is_part(first) && first != "@type" {
                 self.expected.push(first)?;
             }
         }
@@ -343,6 +370,19 @@ fn words_of(alloc: Global, line: &[u8]) -> Result<Vec<Word<'_>>, AllocError> {
     Ok(words)
 }
 
+/// Says of the first binding of each bound that its name is that of a type of a trait: before `=` is read, it may be a type.
+fn mark_bindings(words: &mut [Word<'_>]) {
+    for at in 0..words.len() {
+        let is_bound = matches!(words.get(at.saturating_add(1)), Some(next) if next.used_as == "=");
+        if let Some(word) = words.get_mut(at)
+            && is_bound
+            && word.used_as == "@type"
+        {
+            word.used_as = "@binding";
+        }
+    }
+}
+
 /// Reads a line as far as the grammar goes.
 pub(crate) fn read_words(alloc: Global, line: &[u8]) -> Result<LineWords<'_>, AllocError> {
     let mut words = words_of(alloc, line)?;
@@ -358,6 +398,7 @@ pub(crate) fn read_words(alloc: Global, line: &[u8]) -> Result<LineWords<'_>, Al
         }
         read = read.saturating_add(1);
     }
+    mark_bindings(&mut words);
     let expected = reading.into_expected();
     Ok(LineWords {
         words,

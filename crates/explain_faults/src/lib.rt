@@ -10,6 +10,7 @@ mod offending;
 mod passed;
 mod similar;
 mod sorts;
+mod types;
 
 pub use faults::fault_diagnostic;
 pub use further::{FurtherFault, further_faults};

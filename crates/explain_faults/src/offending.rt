@@ -5,22 +5,102 @@ use crate::hints::hint_for;
 use crate::passed::tell_passed;
 use crate::similar::{similar_name, similar_word};
 use crate::sorts::tell_other_sort;
+use crate::types::{tell_no_type, tell_twice, tell_types};
 use explain_diagnostics::{SourceFile, Span, TextWriter, on_line, parts_of_impl};
 use messages::{
     Piece, Telling, name_in, name_of, plain, whole_line, with_one, with_three, with_two,
 };
 use std::alloc::{AllocError, Global};
-use text_lines::LineRead;
+use text_lines::{Keyword, LineError, LineRead, Statement, Token, read_typed};
 use text_names::FaultKind;
 use text_parser::{LineForm, TEXT_LIMIT, TextFault, line_form};
 use text_tables::{Known, Workspace};
 use type_terms::CrateId;
 
+/// A line that the grammar has.
+#[derive(Drop)]
+pub(crate) enum LineReading<'a> {
+    Plain(LineRead<'a>),
+    /// The tokens of a line with types.
+    Typed(Vec<Token<'a>>),
+}
+
+/// What was read, if the grammar has it.
+pub(crate) fn if_written<T>(read: Result<T, LineError>) -> Result<Option<T>, AllocError> {
+    match read {
+        Ok(found) => Ok(Some(found)),
+        Err(LineError::Syntax) => Ok(None),
+        Err(LineError::Memory) => Err(AllocError),
+    }
+}
+
+/// Whether the tokens are those of a line with types.
+fn is_typed(alloc: Global, found: &[Token<'_>]) -> Result<bool, AllocError> {
+    let typed = if_written(read_typed(alloc, found))?;
+    Ok(typed.is_some())
+}
+
 /// What a line says, if the grammar has it.
-pub(crate) fn reading(alloc: Global, line: &[u8]) -> Result<Option<LineRead<'_>>, AllocError> {
+pub(crate) fn reading(alloc: Global, line: &[u8]) -> Result<Option<LineReading<'_>>, AllocError> {
     match line_form(alloc, line)? {
-        LineForm::Read(read) => Ok(Some(read)),
+        LineForm::Read(read) => Ok(Some(LineReading::Plain(read))),
+        LineForm::Typed(found) => {
+            if is_typed(alloc, &found)? {
+                Ok(Some(LineReading::Typed(found)))
+            } else {
+                Ok(None)
+            }
+        }
         LineForm::OtherByte | LineForm::Blank | LineForm::Unwritten => Ok(None),
+    }
+}
+
+/// The trait that a line with types declares, if it does.
+fn declared_trait<'a>(found: &[Token<'a>]) -> Option<&'a [u8]> {
+    for two in found.windows(2) {
+        if let [Token::Keyword(Keyword::Trait), Token::Name(name)] = two {
+            return Some(*name);
+        }
+    }
+    None
+}
+
+impl<'a> LineReading<'a> {
+    /// The name that it declares, if it does.
+    fn declared_name(&self) -> Option<&'a [u8]> {
+        match self {
+            LineReading::Plain(read) => read.statement.declared_name(),
+            LineReading::Typed(found) => declared_trait(found),
+        }
+    }
+
+    /// Whether it declares something in the crate or the section that is open.
+    pub(crate) fn is_item(&self) -> bool {
+        match self {
+            LineReading::Plain(read) => {
+                matches!(
+                    read.statement,
+                    Statement::Struct { .. } | Statement::Trait { .. } | Statement::Impl { .. }
+                )
+            }
+            LineReading::Typed(found) => !matches!(
+                found.first(),
+                Some(Token::Keyword(Keyword::Prove | Keyword::Refute))
+            ),
+        }
+    }
+
+    /// Whether it begins a crate or a section.
+    pub(crate) fn is_beginning(&self) -> bool {
+        match self {
+            LineReading::Plain(read) => {
+                matches!(
+                    read.statement,
+                    Statement::Crate { .. } | Statement::Later { .. }
+                )
+            }
+            LineReading::Typed(_) => false,
+        }
     }
 }
 
@@ -54,7 +134,7 @@ fn tell_long_text(file: &SourceFile<'_>, line: u32, telling: &mut Telling) -> bo
 }
 
 /// How a symbol of the grammar is called, where it is no token.
-static CALLED: [(&str, &str); 16] = [
+static CALLED: [(&str, &str); 19] = [
     (END, "the line's end"),
     ("Line", "the first word of a line"),
     ("Type", "a type"),
@@ -65,6 +145,9 @@ static CALLED: [(&str, &str); 16] = [
     ("@crate", "the name of a crate"),
     ("@trait", "the name of a trait"),
     ("@bound", "the name of a trait"),
+    ("@item", "the name of a type"),
+    ("@given", "the name of a type"),
+    ("@binding", "the name of a type"),
     ("'param", "a lifetime"),
     ("'binder", "a lifetime"),
     ("'used", "a lifetime"),
@@ -214,7 +297,7 @@ fn tell_taken(line: Faulty<'_>, telling: &mut Telling) -> bool {
             return true;
         }
     }
-    false
+    tell_twice(line, telling)
 }
 
 /// What to write for a name or a lifetime of Rust that is not known.
@@ -287,7 +370,7 @@ fn written_for(text: &[u8]) -> Option<&'static str> {
 }
 
 /// The first line behind one, before another, that declares a name, if there is one.
-pub(crate) fn line_declaring(
+fn line_declaring(
     alloc: Global,
     file: &SourceFile<'_>,
     behind: u32,
@@ -297,12 +380,21 @@ pub(crate) fn line_declaring(
     for above in behind..before {
         let number = above.saturating_add(1);
         if let Some(read) = reading(alloc, file.line(number))? {
-            if read.statement.declared_name() == Some(name) {
+            if read.declared_name() == Some(name) {
                 return Ok(Some(number));
             }
         }
     }
     Ok(None)
+}
+
+/// Marks the line that declares a name beside what is marked.
+pub(crate) fn mark_declaration(line: Faulty<'_>, word: Word<'_>, telling: &mut Telling) {
+    let declared = line_declaring(telling.alloc(), line.file, 0, line.number, word.text);
+    if let Some(Some(number)) = telling.granted(declared) {
+        let whole = whole_line(line.file.line(number));
+        telling.mark_beside(on_line(number, whole), plain(""));
+    }
 }
 
 /// Tells what to do about a name or a lifetime that is not known.
@@ -347,7 +439,7 @@ fn tell_unknown(line: Faulty<'_>, telling: &mut Telling) -> bool {
             return true;
         }
     }
-    false
+    tell_no_type(line, telling)
 }
 
 /// The crate to which a line belongs: that of the last section or crate that begins above it. For a query the crate that it names.
@@ -434,7 +526,7 @@ fn item_fault(
 /// Whether a parameter is left out of the header of its impl.
 fn is_free(line: Faulty<'_>, param: Word<'_>) -> bool {
     for word in line.words {
-        if word.text == b"where".as_slice() {
+        if matches!(word.text, b"where" | b"{") {
             break;
         }
         if word.uses() && word.text == param.text {
@@ -470,7 +562,9 @@ fn said_of(
         FaultKind::FreeParam if is_free(line, word) => "`{}` is not in the header",
         FaultKind::OwnBound if word.uses() && line.declaring(word.text).is_some() =>
             "the trait itself",
-        FaultKind::LoadedAuto if before.used_as == "@own" => "an auto trait has none",
+        FaultKind::LoadedAuto if word.used_as == "@item" => "an auto trait has no types",
+        FaultKind::LoadedAuto if before.used_as == "@own" && word.used_as != "{" =>
+            "an auto trait has none",
         FaultKind::BuiltIn if word.used_as == "@trait" => "an impl of `{}` cannot be written",
         FaultKind::StrayVariable if word.class == b'?' && is_stray(line, word) =>
             "`{}` is a variable",
@@ -495,9 +589,16 @@ fn tell_word(line: Faulty<'_>, kind: FaultKind, telling: &mut Telling) -> bool {
     false
 }
 
+/// A line up to the types that an impl gives.
+fn before_types(line: Faulty<'_>) -> &[u8] {
+    let whole = line.file.line(line.number);
+    let end = whole.iter().take_while(|byte| **byte != b'{').count();
+    whole.get(..end).unwrap_or(whole)
+}
+
 /// Tells of the type for which an auto trait is implemented, and whether it is found.
 fn tell_foreign_auto(line: Faulty<'_>, telling: &mut Telling) -> bool {
-    let parts = parts_of_impl(telling.alloc(), line.file.line(line.number));
+    let parts = parts_of_impl(telling.alloc(), before_types(line));
     let Some(Some(parts)) = telling.granted(parts) else {
         return false;
     };
@@ -510,14 +611,40 @@ fn tell_foreign_auto(line: Faulty<'_>, telling: &mut Telling) -> bool {
     true
 }
 
-/// Tells of the part of a line that a fault is about, by its tokens and what the lines above it give, and whether it is found.
+/// What was told of a fault.
+#[derive(Clone, Copy)]
+pub(crate) enum Told {
+    /// The part of the line that it is about was not found.
+    Nothing,
+    Part,
+    /// It is about types of traits, and has this message.
+    Types(&'static str),
+}
+
+/// What was told, where it is seen whether the part of the line was found.
+fn told_if(is_found: bool) -> Told {
+    if is_found { Told::Part } else { Told::Nothing }
+}
+
+/// Tells of a name that stands for something else than its place needs, of other arguments than it takes, or of types of traits.
+fn tell_sorts(line: Faulty<'_>, telling: &mut Telling) -> Told {
+    if tell_other_sort(line, telling) {
+        return Told::Part;
+    }
+    match tell_types(line, telling) {
+        Some(message) => Told::Types(message),
+        None => Told::Nothing,
+    }
+}
+
+/// Tells of the part of a line that a fault is about, by its tokens and what the lines above it give.
 fn tell_part(
     file: &SourceFile<'_>,
     fault: TextFault,
     words: &[Word<'_>],
     workspace: &Workspace,
     telling: &mut Telling,
-) -> bool {
+) -> Told {
     let line = Faulty {
         file,
         number: fault.line,
@@ -525,52 +652,61 @@ fn tell_part(
         workspace,
     };
     match fault.kind {
-        FaultKind::Taken => tell_taken(line, telling),
-        FaultKind::Unknown => tell_unknown(line, telling),
-        FaultKind::Hidden => tell_hidden(line, telling),
-        FaultKind::OtherSort => tell_other_sort(line, telling),
-        FaultKind::ForeignAuto => tell_foreign_auto(line, telling),
-        FaultKind::Limit => tell_passed(line, telling),
-        _ => tell_word(line, fault.kind, telling),
+        FaultKind::Taken => told_if(tell_taken(line, telling)),
+        FaultKind::Unknown => told_if(tell_unknown(line, telling)),
+        FaultKind::Hidden => told_if(tell_hidden(line, telling)),
+        FaultKind::OtherSort => tell_sorts(line, telling),
+        FaultKind::ForeignAuto => told_if(tell_foreign_auto(line, telling)),
+        FaultKind::Limit => told_if(tell_passed(line, telling)),
+        _ => told_if(tell_word(line, fault.kind, telling)),
     }
 }
 
-/// Tells of the part of a line that a fault is about, by the grammar and by what the lines above it give, and whether it is found.
+/// Tells of the part of a line that a fault is about, by the grammar and by what the lines above it give.
 fn tell_written(
     file: &SourceFile<'_>,
     fault: TextFault,
     above: Option<&Workspace>,
     telling: &mut Telling,
-) -> bool {
+) -> Told {
     let read = read_words(telling.alloc(), file.line(fault.line));
     let Some(read) = telling.granted(read) else {
-        return false;
+        return Told::Nothing;
     };
     if fault.kind == FaultKind::Syntax {
-        return tell_unwritten(fault.line, &read, telling);
+        return told_if(tell_unwritten(fault.line, &read, telling));
     }
     match above {
-        None => false,
+        None => Told::Nothing,
         Some(workspace) => tell_part(file, fault, &read.words, workspace, telling),
     }
 }
 
-/// Marks what a fault is about, and tells what follows; where it is not found, marks the whole line. `above` is what the lines above give.
+/// Marks what a fault is about, and tells what follows; where it is not found, marks the whole line. Gives the message, where that is another
+/// than for most faults of the kind. `above` is what the lines above give.
 pub(crate) fn tell_offence(
     text: &[u8],
     file: &SourceFile<'_>,
     fault: TextFault,
     above: Option<&Workspace>,
     telling: &mut Telling,
-) {
-    let is_found = match fault.kind {
-        FaultKind::OtherByte => tell_other_byte(fault.line, file.line(fault.line), telling),
-        FaultKind::Misplaced => tell_misplaced(file, fault.line, above, telling),
-        FaultKind::Limit if text.len() > TEXT_LIMIT => tell_long_text(file, fault.line, telling),
+) -> Option<&'static str> {
+    let number = fault.line;
+    let told = match fault.kind {
+        FaultKind::OtherByte => told_if(tell_other_byte(number, file.line(number), telling)),
+        FaultKind::Misplaced => told_if(tell_misplaced(file, number, above, telling)),
+        FaultKind::Limit if text.len() > TEXT_LIMIT => {
+            told_if(tell_long_text(file, number, telling))
+        }
         _ => tell_written(file, fault, above, telling),
     };
-    if !is_found {
-        let whole = whole_line(file.line(fault.line));
-        telling.mark(on_line(fault.line, whole), plain(""));
+    match told {
+        Told::Types(message) => Some(message),
+        Told::Part => None,
+        Told::Nothing => {
+            let whole = whole_line(file.line(number));
+            telling.mark(on_line(number, whole), plain(""));
+            None
+        }
     }
 }

@@ -46,6 +46,11 @@ fn compare<'w>(
     }
 }
 
+/// Whether a name can stand in a text: those that lines with types stand for have colons.
+fn is_written(name: &[u8]) -> bool {
+    !name.contains(&b':')
+}
+
 /// The struct or trait whose name is most similar to a text, if one is near.
 fn nearest_name<'w>(
     alloc: Global,
@@ -57,10 +62,14 @@ fn nearest_name<'w>(
         distance: near(wanted).saturating_add(1),
     };
     for entry in workspace.structs() {
-        best = compare(alloc, best, wanted, &entry.name)?;
+        if is_written(&entry.name) {
+            best = compare(alloc, best, wanted, &entry.name)?;
+        }
     }
     for entry in workspace.traits() {
-        best = compare(alloc, best, wanted, &entry.name)?;
+        if is_written(&entry.name) {
+            best = compare(alloc, best, wanted, &entry.name)?;
+        }
     }
     Ok(best.name)
 }
@@ -76,7 +85,7 @@ pub(crate) fn similar_name<'w>(
 }
 
 /// The words of the grammar that stand outside types.
-static WORDS: [&str; 15] = [
+static WORDS: [&str; 16] = [
     "crate",
     "uses",
     "fundamental",
@@ -92,6 +101,7 @@ static WORDS: [&str; 15] = [
     "later",
     "supers",
     "const",
+    "type",
 ];
 
 /// The word of the grammar that is most like this one, if one is near.

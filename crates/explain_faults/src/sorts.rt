@@ -1,9 +1,8 @@
 //! Names that stand for something else than their places need, and arguments that are others than what a name takes.
 
 use crate::grammar::Word;
-use crate::offending::{Faulty, kind_of, line_declaring};
-use explain_diagnostics::on_line;
-use messages::{Piece, Telling, name_of, plain, whole_line, with_four, with_two};
+use crate::offending::{Faulty, kind_of, mark_declaration};
+use messages::{Piece, Telling, name_of, with_four, with_two};
 use std::alloc::{AllocError, Global};
 use text_tables::{Known, ParamKind};
 
@@ -86,22 +85,29 @@ fn params_of<'t>(line: Faulty<'t>, word: Word<'_>) -> Option<&'t [ParamKind]> {
     }
 }
 
-/// The tokens that begin the arguments behind a token.
-fn arguments(alloc: Global, words: &[Word<'_>], at: usize) -> Result<Vec<usize>, AllocError> {
-    let open = at.saturating_add(1);
-    match words.get(open) {
-        Some(next) if next.text == b"<".as_slice() => list_items(alloc, words, open),
-        _ => Ok(Vec::new(alloc)),
+/// Whether a token begins a binding.
+fn is_binding(words: &[Word<'_>], at: usize) -> bool {
+    match words.get(at) {
+        Some(word) => word.used_as == "@binding",
+        None => false,
     }
 }
 
-/// Marks the line that declares a name beside what is marked.
-fn mark_declaration(line: Faulty<'_>, word: Word<'_>, telling: &mut Telling) {
-    let declared = line_declaring(telling.alloc(), line.file, 0, line.number, word.text);
-    if let Some(Some(number)) = telling.granted(declared) {
-        let whole = whole_line(line.file.line(number));
-        telling.mark_beside(on_line(number, whole), plain(""));
+/// The tokens that begin the arguments behind a token.
+fn arguments(alloc: Global, words: &[Word<'_>], at: usize) -> Result<Vec<usize>, AllocError> {
+    let open = at.saturating_add(1);
+    let mut arguments = Vec::new(alloc);
+    if let Some(next) = words.get(open)
+        && next.text == b"<".as_slice()
+    {
+        let items = list_items(alloc, words, open)?;
+        for item in &items {
+            if !is_binding(words, *item) {
+                arguments.push(*item)?;
+            }
+        }
     }
+    Ok(arguments)
 }
 
 /// Tells of another number of arguments than a name takes.
