@@ -13,7 +13,7 @@ use explain_texts::sessions::Session;
 use explain_texts::text_printer::ShownNames;
 use explain_texts::text_tables::ImplEntry;
 use explain_texts::type_terms::{Fault, ImplId};
-use explain_texts::{Spoken, Texts, impl_line, speak};
+use explain_texts::{Spoken, Texts, impl_line, is_companion, speak};
 use std::alloc::{AllocError, Global};
 
 /// How many pairs of a crate are compared at most after the first that overlaps.
@@ -124,7 +124,9 @@ fn later_pairs(alloc: Global, texts: Texts<'_>, first: Pair) -> Result<LaterPair
     };
     let mut looked = 0usize;
     for later in impls {
-        let is_own = later.owner.index == own.owner.index;
+        // Impls of companions overlap only where those of their traits do.
+        let is_own = later.owner.index == own.owner.index
+            && !is_companion(texts, later.header.trait_id);
         if is_own && later.id.index >= first.later.index && looked < LOOK_LIMIT {
             looked = looked.saturating_add(later.id.index as usize);
             push_pairs(impls, later, first, &mut pairs)?;

@@ -93,6 +93,14 @@ impl<'s> Questioned<'s> {
         }
     }
 
+    /// Whether a bound is the first that stands where it does: one that binds several types stands for several.
+    fn begins_at(self, number: usize) -> bool {
+        match number.checked_sub(1) {
+            Some(before) => self.span(before).start != self.span(number).start,
+            None => true,
+        }
+    }
+
     /// What requires the goal of a bound: this query.
     fn asking(self, found: &BoundWalk) -> Asking<'s> {
         Asking {
@@ -183,7 +191,9 @@ fn explain_bound(
     let proof = find_proof(session, yes, bound, spending)?;
     let claims = no_claims(telling.alloc());
     let told = speak_proof(telling.alloc(), question, session, &proof, &claims)?;
-    telling.mark(question.span(bound), plain(""));
+    if question.begins_at(bound) {
+        telling.mark(question.span(bound), plain(""));
+    }
     Ok(told.tell_all(rows_of_each(question.bound_count()), telling))
 }
 

@@ -3,7 +3,9 @@
 ghost use Rattle.std.specs.Prelude.{IfOk};
 ghost use Rattle.messages.specs.Told.{IsAbout, KeepsMessage};
 
-use crate::items::{Texts, has_rules, impl_line, impl_piece, is_auto, trait_name, written};
+use crate::items::{
+    Texts, has_rules, impl_line, impl_piece, is_auto, is_companion, trait_name, written,
+};
 use crate::lines::ImplLine;
 use crate::links::{impl_above, last_of, tell_links, tell_narrowed, tell_supertrait};
 use crate::refused::{Refusal, tell_refused};
@@ -12,7 +14,7 @@ use crate::story::{Story, refused_premise};
 use explain_diagnostics::{Diagnostic, ErrCode, LIST_LIMIT, Level, Span};
 use explain_sessions::explain_traces::Standing;
 use explain_sessions::type_terms::{ImplId, TraitId};
-use messages::{Piece, Sentence, Telling, plain, with_one, with_two};
+use messages::{Piece, Sentence, Telling, plain, with_one, with_three, with_two};
 use std::alloc::{AllocError, Global};
 
 /// What requires a goal: a query, or the header of an impl.
@@ -61,15 +63,17 @@ pub(crate) fn is_of_trait(texts: Texts<'_>, id: ImplId, of_trait: TraitId) -> bo
     }
 }
 
-/// Whether a trait has parameters.
+/// Whether a trait has parameters. A companion has one more than its trait.
 pub(crate) fn has_params(texts: Texts<'_>, id: TraitId) -> bool {
+    let own = if is_companion(texts, id) { 1 } else { 0 };
     match texts.workspace.traits().get(id.index as usize) {
-        Some(entry) => !entry.params.is_empty(),
+        Some(entry) => entry.params.len() > own,
         None => false,
     }
 }
 
-/// An impl as it is written, with its line: its type, and its whole header if the trait has parameters.
+/// An impl as it is written, with its line: its type, and its whole header if the trait has parameters. That of a companion is written with
+/// what it gives.
 fn written_impl<'w>(
     texts: Texts<'w>,
     found: &ImplLine,
@@ -82,12 +86,21 @@ fn written_impl<'w>(
         found.parts.subject
     };
     let header = Piece::Name(written(texts, found.line, place));
+    let line = Piece::Line(texts.file.own_line(found.line));
+    if let Some(given) = found.given {
+        let template = if is_first {
+            "`{}` with `{}` (line {})"
+        } else {
+            ", `{}` with `{}` (line {})"
+        };
+        let given = Piece::Name(written(texts, found.line, given));
+        return with_three(template, header, given, line);
+    }
     let template = if is_first {
         "`{}` (line {})"
     } else {
         ", `{}` (line {})"
     };
-    let line = Piece::Line(texts.file.own_line(found.line));
     with_two(template, header, line)
 }
 

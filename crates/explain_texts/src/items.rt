@@ -1,7 +1,9 @@
 //! The names of items, and where they are in the text.
 
-ghost use Rattle.std.specs.Prelude.{length};
+ghost use Rattle.std.specs.Prelude.{◌≡◌, ◌==◌, length};
+ghost use Rattle.std.specs.List.{list_any};
 ghost use Rattle.std.specs.Option.{option_copied};
+ghost use Rattle.explain_sessions.specs.TextLanguage.Promised.Desugared.{is_companion};
 ghost use Rattle.messages.specs.Told.{KeepsMessage};
 ghost use Rattle.explain_texts.specs.ItemLines.{IsItemLine};
 
@@ -55,10 +57,45 @@ pub fn impl_piece<'w>(texts: Texts<'w>, id: ImplId) -> Piece<'w> {
     }
 }
 
-/// The name of a trait.
+/// The name of a companion: that of its trait, and that of the type that it is about. `None` for the name of any other trait.
+pub(crate) fn companion_parts(name: &[u8]) -> Option<(Name<'_>, Name<'_>)> {
+    let end = name.iter().take_while(|byte| **byte != b':').count();
+    let (of_trait, behind) = name.split_at_checked(end)?;
+    let of_type = behind.strip_prefix(b"::")?;
+    Some((name_of(of_trait), name_of(of_type)))
+}
+
+/// Whether a name has a colon. No name in a text has one.
+fn has_colon(name: &[u8]) -> bool
+    ensures { result ≡ list_any (λ c. c == 58) name.now }
+{
+    name.iter().any(|byte| *byte == b':')
+}
+
+/// Whether a trait of the workspace is the companion of another one.
+fn is_companion_in(workspace: &Workspace, id: TraitId) -> bool
+    ensures { result ≡ is_companion workspace.now id.index }
+{
+    match workspace.traits().get(id.index as usize) {
+        Some(entry) => has_colon(&entry.name),
+        None => false,
+    }
+}
+
+/// Whether a trait is the companion of another one.
+pub fn is_companion(texts: Texts<'_>, id: TraitId) -> bool
+    ensures { result ≡ is_companion texts.entry.workspace.now id.index }
+{
+    is_companion_in(texts.workspace, id)
+}
+
+/// The name of a trait. A companion has that of its trait.
 pub fn trait_name<'w>(texts: Texts<'w>, id: TraitId) -> Name<'w> {
     match texts.workspace.traits().get(id.index as usize) {
-        Some(entry) => name_of(&entry.name),
+        Some(entry) => match companion_parts(&entry.name) {
+            Some((of_trait, _)) => of_trait,
+            None => name_of(&entry.name),
+        },
         None => name_of(&[]),
     }
 }

@@ -22,7 +22,9 @@ mod words;
 
 pub use doubts::unsettled;
 pub use failures::{Asking, unproved};
-pub use items::{Texts, crate_name, impl_line, impl_piece, is_fundamental, trait_name};
+pub use items::{
+    Texts, crate_name, impl_line, impl_piece, is_companion, is_fundamental, trait_name,
+};
 pub use lines::{ImplLine, ItemLines, QuestionLine, item_lines};
 pub use open_questions::left_open;
 pub use orphans::orphan;

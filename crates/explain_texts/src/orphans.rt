@@ -6,7 +6,7 @@ ghost use Rattle.explain_sessions.specs.OrphanCheck.Promised.Errors.{ErrorHeld, 
 ghost use Rattle.explain_texts.specs.Orphans.{IsOrphanError, orphan_code};
 
 use crate::failures::has_params;
-use crate::items::{Texts, crate_name, impl_line, trait_home, trait_owner};
+use crate::items::{Texts, crate_name, impl_line, is_companion, trait_home, trait_owner};
 use crate::words::type_text;
 use explain_diagnostics::{Diagnostic, ErrCode, LIST_LIMIT, Level, on_line};
 use explain_sessions::orphan_check::errors::{IsFirstInputType, OrphanCheckErr, UncoveredTyParams};
@@ -381,9 +381,13 @@ fn uncovered(
     }
 }
 
-/// Whether an impl is one of the session's crate behind the refused one, and breaks the orphan rule.
+/// Whether an impl is one of the session's crate behind the refused one, and breaks the orphan rule. Those of companions break it as the impl
+/// of the trait does.
 fn is_refused_too(refused: Refused<'_>, session: &Session<'_>, entry: &ImplEntry) -> bool {
     if entry.owner.index != refused.crate_id.index || entry.id.index <= refused.id.index {
+        return false;
+    }
+    if is_companion(refused.texts, entry.header.trait_id) {
         return false;
     }
     match impl_header(session, entry.id) {

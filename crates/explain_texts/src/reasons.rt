@@ -202,7 +202,13 @@ fn is_written_for(texts: Texts<'_>, id: ImplId, spoken: &Spoken) -> bool {
         Some(found) => {
             let subject = written(texts, found.line, found.parts.subject);
             let bound = written(texts, found.line, found.parts.bound);
-            spoken.is_written(subject, bound)
+            match found.given {
+                Some(given) => {
+                    let given = written(texts, found.line, given);
+                    spoken.is_given(subject, bound, given)
+                }
+                None => spoken.is_written(subject, bound),
+            }
         }
         None => false,
     }

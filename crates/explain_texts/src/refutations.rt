@@ -6,7 +6,7 @@ ghost use Rattle.messages.specs.Told.{IsAbout, KeepsMessage};
 ghost use Rattle.explain_texts.specs.Claimed.{claims_of};
 
 use crate::failures::Asking;
-use crate::items::{Texts, has_rules, is_fundamental, trait_name};
+use crate::items::{Texts, has_rules, is_companion, is_fundamental, trait_name};
 use crate::links::tell_narrowed;
 use crate::refused::{Refusal, tell_refused};
 use crate::spoken::Spoken;
@@ -18,7 +18,7 @@ use messages::{Piece, Sentence, Telling, plain, with_one, with_three, with_two};
 use std::alloc::{AllocError, Global};
 
 /// The sentence that nothing fits. It says so if that was not checked.
-fn nothing_fits<'s>(story: &Story<'s>, spoken: &Spoken) -> Sentence<'s>
+fn nothing_fits<'s>(story: &Story<'s>, spoken: &'s Spoken) -> Sentence<'s>
     ensures { is_marked result ≡ false → (claims_of story.now).no_impl ≡ true }
 {
     let texts = story.texts;
@@ -33,7 +33,12 @@ fn nothing_fits<'s>(story: &Story<'s>, spoken: &Spoken) -> Sentence<'s>
     } else {
         "no impl and no built-in rule of `{}` fits, not checked"
     };
-    with_one(template, Piece::Name(trait_name(texts, spoken.trait_id)))
+    let name = if is_companion(texts, spoken.trait_id) {
+        spoken.bound_piece()
+    } else {
+        Piece::Name(trait_name(texts, spoken.trait_id))
+    };
+    with_one(template, name)
 }
 
 /// Why no crate outside the view may add an impl.
@@ -91,7 +96,7 @@ fn tell_whys(story: &Story<'_>, is_narrowed: bool, telling: &mut Telling)
         return;
     };
     if story.candidates(0).is_empty() && story.is_whole(0) {
-        telling.note(nothing_fits(story, spoken));
+        telling.note(nothing_fits(&*story, spoken));
     }
     if let Some(unseen) = story.unseen(0) {
         telling.note(unseen_why(story.texts, spoken, unseen, story.adder(0)));

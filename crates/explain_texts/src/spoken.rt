@@ -5,13 +5,14 @@ ghost use Rattle.explain_sessions.specs.TypeTerms.Promised.Handles.{ArgHeld};
 ghost use Rattle.explain_sessions.specs.TypeTerms.Promised.Handles.{Has, types};
 ghost use Rattle.explain_sessions.specs.TypeTerms.Terms.{args_lists};
 
+use crate::items::companion_parts;
 use crate::words::type_text;
 use explain_diagnostics::{TYPE_LIMIT, cut_text};
 use explain_sessions::term_folds::predicate::TraitRef;
 use explain_sessions::type_terms::interner::Interner;
 use explain_sessions::type_terms::kinds::{GenericArgKind, Ty, TyKind};
 use explain_sessions::type_terms::{AdtId, TraitId};
-use messages::{Name, Piece};
+use messages::{Name, Piece, name_of};
 use std::alloc::{AllocError, Global};
 use text_printer::{PrintNames, ShownNames, print_const, print_type_within};
 
@@ -68,36 +69,116 @@ impl Spoken {
         self.subject.as_bytes() == subject.bytes && self.bound.as_bytes() == bound.bytes
     }
 
+    /// Whether it is written with this self type and this bound, and binds a type as it is given there.
+    pub(crate) fn is_given(&self, subject: Name<'_>, bound: Name<'_>, given: Name<'_>) -> bool {
+        self.subject.as_bytes() == subject.bytes
+            && is_bound_with(self.bound.as_bytes(), bound.bytes, given.bytes)
+    }
+
     /// The self type, for a sentence.
     pub fn subject_piece(&self) -> Piece<'_> {
         Piece::Text(self.subject.as_str())
     }
 }
 
-/// Appends an argument of a trait after its self type, with what comes before it.
+/// Whether a bound is another one with a binding added.
+fn is_bound_with(whole: &[u8], bound: &[u8], binding: &[u8]) -> bool {
+    let Some(open) = whole.strip_suffix(b">") else {
+        return false;
+    };
+    match open.strip_suffix(binding) {
+        Some([front @ .., b'<']) => front == bound,
+        Some([front @ .., b',', b' ']) => bound.strip_suffix(b">") == Some(front),
+        _ => false,
+    }
+}
+
+/// Whether a struct is that of `core` around what a type of a trait is.
+fn is_wrapper(names: &ShownNames<'_>, id: AdtId) -> bool {
+    match names.workspace.structs().get(id.index as usize) {
+        Some(entry) => entry.name.as_slice() == b"::W".as_slice(),
+        None => false,
+    }
+}
+
+/// What a type of a trait is, if this is the last argument of a companion.
+fn wrapped(cx: &Interner, names: &ShownNames<'_>, arg: GenericArgKind) -> Option<GenericArgKind>
+    requires { ArgHeld cx.now.entries arg }
+    ensures { IfSome result (ArgHeld cx.now.entries) }
+{
+    let GenericArgKind::Ty(ty) = arg else {
+        return None;
+    };
+    match cx.kind(ty) {
+        TyKind::Adt(id, args) if is_wrapper(names, id) => cx.args(args).first().copied(),
+        _ => None,
+    }
+}
+
+/// Appends a type or a constant.
+fn push_term(
+    cx: &Interner,
+    names: &ShownNames<'_>,
+    term: GenericArgKind,
+    out: &mut Vec<u8>,
+) -> Result<(), AllocError>
+    requires { ArgHeld cx.now.entries term }
+{
+    match term {
+        GenericArgKind::Lifetime(_) => Ok(()),
+        GenericArgKind::Ty(ty) => print_type_within(cx, names, ty, TYPE_LIMIT + 1, out),
+        GenericArgKind::Const(value) => print_const(cx, names, value, out),
+    }
+}
+
+/// The name of a trait, and of its type that a companion is about.
+#[derive(Clone, Copy)]
+struct TraitName<'w> {
+    own: Name<'w>,
+    of_type: Name<'w>,
+}
+
+/// The name of the trait of a trait reference.
+fn name_parts<'w>(names: &ShownNames<'w>, id: TraitId) -> TraitName<'w> {
+    let name: &[u8] = match names.workspace.traits().get(id.index as usize) {
+        Some(entry) => &entry.name,
+        None => &[],
+    };
+    match companion_parts(name) {
+        Some((own, of_type)) => TraitName { own, of_type },
+        None => TraitName {
+            own: name_of(name),
+            of_type: name_of(&[]),
+        },
+    }
+}
+
+/// Appends an argument of a trait after its self type, with what comes before it. The last one of a companion says what the type with this
+/// name is.
 fn push_arg(
     cx: &Interner,
     names: &ShownNames<'_>,
+    of_type: Name<'_>,
     arg: GenericArgKind,
     out: &mut Vec<u8>,
     is_first: bool,
 ) -> Result<bool, AllocError>
     requires { ArgHeld cx.now.entries arg }
 {
-    let before: &[u8] = if is_first { b"<" } else { b", " };
-    match arg {
-        GenericArgKind::Lifetime(_) => Ok(is_first),
-        GenericArgKind::Ty(ty) => {
-            out.extend_from_slice(before)?;
-            print_type_within(cx, names, ty, TYPE_LIMIT + 1, out)?;
-            Ok(false)
-        }
-        GenericArgKind::Const(value) => {
-            out.extend_from_slice(before)?;
-            print_const(cx, names, value, out)?;
-            Ok(false)
-        }
+    if let GenericArgKind::Lifetime(_) = arg {
+        return Ok(is_first);
     }
+    let before: &[u8] = if is_first { b"<" } else { b", " };
+    out.extend_from_slice(before)?;
+    match wrapped(cx, names, arg) {
+        Some(value) => {
+            out.extend_from_slice(of_type.bytes)?;
+            out.extend_from_slice(b" = ")?;
+            push_term(cx, names, value, out)?;
+        }
+        None => push_term(cx, names, arg, out)?,
+    }
+    Ok(false)
 }
 
 /// The trait of a trait reference, with its arguments after the self type.
@@ -110,11 +191,12 @@ fn bound_text(
     requires { Has cx.now.entries args_lists reference.args.0 }
 {
     let mut out = Vec::new(alloc);
-    names.push_trait(reference.def_id, &mut out)?;
+    let name = name_parts(names, reference.def_id);
+    out.extend_from_slice(name.own.bytes)?;
     let mut is_first = true;
     for (place, arg) in cx.args(reference.args).iter().enumerate() {
         if place > 0 && out.len() <= TYPE_LIMIT {
-            is_first = push_arg(cx, names, *arg, &mut out, is_first)?;
+            is_first = push_arg(cx, names, name.of_type, *arg, &mut out, is_first)?;
         }
     }
     if !is_first {
@@ -165,7 +247,7 @@ fn subject_kind(cx: &Interner, reference: TraitRef) -> SubjectKind
     }
 }
 
-/// An argument as text if it is a type variable, and otherwise an empty text.
+/// An argument, or what it says that a type of the trait is, as text if that is a type variable. Otherwise an empty text.
 fn text_if_unknown(
     alloc: Global,
     cx: &Interner,
@@ -174,7 +256,11 @@ fn text_if_unknown(
 ) -> Result<String, AllocError>
     requires { ArgHeld cx.now.entries arg }
 {
-    match arg {
+    let term = match wrapped(cx, names, arg) {
+        Some(value) => value,
+        None => arg,
+    };
+    match term {
         GenericArgKind::Ty(ty) => match cx.kind(ty) {
             TyKind::Infer(_) => type_text(alloc, cx, names, ty),
             _ => Ok(String::new(alloc)),
