@@ -41,7 +41,7 @@ METHOD = re.compile(r'^    \("(\w+)", (\w+), "(\w+)', re.M)
 # What method_lookup says of a call: the receiver, the method, and what it means.
 CALL = re.compile(r"^(.+)\.(\w+)\(\): (?:step \d+, .+?: )?(.+)$", re.M)
 TRAIT = re.compile(r"trait (\w+)((?:<.*>)?)")
-DEREF = re.compile(r"impl(<.*?>)? Deref<(.*)> for (.*)")
+DEREF = re.compile(r"impl(<.*?>)? Deref for (.*) \{ type Target = (.*); \}")
 TOY = re.compile(r"^== (.*)\n((?:(?!== ).*\n)*)", re.M)
 NOTE = re.compile(r"// (error|rustc): (.*)")
 FUNCTION = re.compile(r"(fn \w+(?:<.*?>)?)\((.*?)\)(.*)")
@@ -73,14 +73,14 @@ class Rustc:
 
 
 def rust_item(line: str, methods: str = "") -> str:
-    """A declaration of a text, in Rust. That references and `Box` dereference is a rule of the language there."""
+    """A declaration of a text, in Rust. `Deref` is that of the standard library, with its impls for references and `Box`."""
     deref = DEREF.fullmatch(line)
-    if line.startswith("crate ") or deref and deref[3].startswith(("&", "Box<")):
+    if line.startswith(("crate ", "trait Deref ")) or deref and deref[2].startswith(("&", "Box<")):
         return ""
     if line.startswith("struct "):
         return f"{line};"
     if deref:
-        return f"impl{deref[1] or ''} std::ops::Deref for {deref[3]} {{ type Target = {deref[2]}; fn deref(&self) -> &{deref[2]} {{ loop {{}} }} }}"
+        return f"impl{deref[1] or ''} std::ops::Deref for {deref[2]} {{ type Target = {deref[3]}; fn deref(&self) -> &{deref[3]} {{ loop {{}} }} }}"
     if " Clone for " in line:
         methods = "fn clone(&self) -> Self { loop {} }"
     return f"{line} {{ {methods} }}"

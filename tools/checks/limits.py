@@ -158,6 +158,48 @@ def clause_cases() -> Iterator[Case]:
     yield from line_pair("# bounds of a trait", 64, lambda count: f"trait Bounded: {repeated('Show', count, ' + ')}")
 
 
+ITEM = f"{BASE}trait It {{ type Item; }}\n"
+LINE_LIMIT = 65536
+
+
+def types_of(count: int, form: str = "type A#;") -> str:
+    return " ".join(many(form, range(1, count + 1)))
+
+
+def bindings_of(count: int) -> str:
+    return ", ".join(many("A# = u8", range(1, count + 1)))
+
+
+def long_line(count: int, line: str) -> str:
+    """The line, with so many bytes."""
+    return line + " " * (count - len(line))
+
+
+def companion_cases() -> Iterator[Case]:
+    """What is counted of a line with types, and of the lines that it stands for."""
+    yield from line_pair("# types of a trait", 16, lambda count: f"trait Many {{ {types_of(count)} }}")
+    many_types = f"{BASE}trait Many {{ {types_of(16)} }}\n"
+    yield Case("16 types of an impl", f"{many_types}impl Many for u8 {{ {types_of(16, 'type A# = u8;')} }}\n", ACCEPTED)
+    yield Case("17 types of an impl", f"{many_types}impl Many for u8 {{ {types_of(17, 'type A# = u8;')} }}\n", "line 4: fault 16")
+    yield Case("16 bindings", f"{many_types}trait Sub: Many<{bindings_of(16)}>\n", ACCEPTED)
+    yield Case("17 bindings", f"{many_types}trait Sub: Many<{bindings_of(17)}>\n", "line 4: fault 16")
+    yield from line_pair("a line with a type, of # bytes", LINE_LIMIT, lambda count: long_line(count, "trait It { type Item; }"))
+    past = "line 4: fault 16"
+    yield from line_pair("a query with a binding, of # bytes", LINE_LIMIT, lambda count: long_line(count, "prove in base u8: It<Item = u8>"),
+                         "prove 1: unproved", past, ITEM)
+    yield Case("a line without types that is longer", f"{BASE}{long_line(LINE_LIMIT + 1, 'impl Show for u8')}\n", ACCEPTED)
+    yield Case("a comment with a brace that is longer", f"{BASE}{long_line(LINE_LIMIT + 1, '// {')}\n", ACCEPTED)
+    yield Case("a longer line with a brace that is no line", f"{BASE}{long_line(LINE_LIMIT + 1, 'trait {')}\n", "line 3: fault 2")
+    yield from line_pair("a trait and a type with names of # bytes", 62, lambda count: f"trait {'n' * 30} {{ type {'t' * (count - 30)}; }}")
+    yield from line_pair("# parameters of a trait with a type", 63, lambda count: f"trait Many<{listed('T', count)}> {{ type Item; }}")
+    yield from line_pair("a value that is # deep", 63, lambda count: f"impl It for u8 {{ type Item = {'&' * (count - 1)}u8; }}", refused=past, before=ITEM)
+    yield from line_pair("# where-clauses, of which each has a binding", 32, lambda count: f"impl<T> Show for T where {repeated('T: It<Item = u8>', count)}",
+                         refused=past, before=ITEM)
+    yield from line_pair("# bounds with a binding of a trait", 32, lambda count: f"trait Sub: {repeated('It<Item = u8>', count, ' + ')}", refused=past, before=ITEM)
+    yield from line_pair("# bounds with a binding of a query", 64, lambda count: f"prove in base {repeated('u8: It<Item = u8>', count)}",
+                         "prove 1: unproved", past, ITEM)
+
+
 # Types that grow in two ways, of which a search is given up, and what is asked of some of them.
 GROWING = "crate a\ntrait S\ntrait N<t>\ntrait M:S\nstruct V<T>\nimpl<T>S for V<T>where V<&&&[T]>:S,V<&T>:S\n"
 SMALL = ["u8", "i8", "()", "!", "u16", "i16", "u32", "i32", "u64", "i64", "str", "bool", "char"]
@@ -200,7 +242,7 @@ def check_budgets(tally: Tally, answering: str) -> None:
 def check(tally: Tally, _: argparse.Namespace) -> None:
     answering = program("celtisdarts")
     check_budgets(tally, answering)
-    for cases in (text_cases, item_cases, section_cases, name_cases, parameter_cases, type_cases, clause_cases):
+    for cases in (text_cases, item_cases, section_cases, name_cases, parameter_cases, type_cases, clause_cases, companion_cases):
         for case in cases():
             ended = run([answering, "8"], case.text.encode())
             expected = (1 if "fault" in case.last else 0, case.last)

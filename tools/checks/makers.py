@@ -17,10 +17,10 @@ from .common import examples
 Lines = list[str]
 PRIMITIVES = ["u8", "bool", "char", "str", "i32", "u64", "usize", "i128", "!", "()"]
 RESERVED = (
-    "crate uses fundamental struct auto trait impl for where prove refute in later supers bool char str mut const fn dyn"
+    "crate uses fundamental struct auto trait impl for where prove refute in later supers bool char str mut const fn dyn type"
     " i8 i16 i32 i64 i128 isize u8 u16 u32 u64 u128 usize"
 ).split()
-SIGNS = ["->", "<", ">", "(", ")", "[", "]", ",", ":", ";", "&", "*", "+", "!", "'", "?", "'static", "?x", "?", "//", "-", "\t", "\r"]
+SIGNS = ["->", "<", ">", "(", ")", "[", "]", ",", ":", ";", "&", "*", "+", "!", "=", "{", "}", "'", "?", "'static", "?x", "?", "//", "-", "\t", "\r"]
 NUMBERS = ["0", "1", "12", "13", "16", "17", "64", "65", "255", "256", "4096", "4294967295", "18446744073709551615", "18446744073709551616"]
 
 

@@ -13,7 +13,7 @@ from .common import Tally, Wrong, example, program, run
 
 NAMES = """types_as_they_are_printed unsizing_to_a_dyn several_bounds_and_where_clauses where_clauses_are_proved
     headers_that_differ_in_lifetimes values_of_a_type_and_a_const later_versions_are_judged_apart a_supertrait_that_is_missing
-    a_supertrait_that_is_there""".split()
+    a_supertrait_that_is_there types_of_a_trait""".split()
 
 
 def try_prefix(answering: str, text: bytes) -> None:

@@ -17,7 +17,7 @@ Each function with a contract that other crates may call, and each public type o
 trait has one. `--write` makes a page for each crate of these comments, with the names of clauses and definitions: docs/layers/NAME.md. Since
 they are generated they are not committed.
 
-README.md has at most 140 lines, and docs/PROMISES.md at most 320. A link in any document leads to a file or a folder of the
+README.md has at most 140 lines, and docs/PROMISES.md at most 340. A link in any document leads to a file or a folder of the
 repository, and to a heading of the document if it names one. A path in backticks that begins with `crates/` or the name of
 another folder of the repository exists, unless a part of it is in capitals, such as NAME. So does a check that is named as `tools/check
 NAME`.
@@ -40,7 +40,7 @@ from .layers import FUNCTION, OWNER, contract_of, owners_of
 from .runner import ALL, GROUPS
 
 PROMISES = "docs/PROMISES.md"
-MOST_LINES = {"README.md": 140, PROMISES: 320}
+MOST_LINES = {"README.md": 140, PROMISES: 340}
 LAYERS = "docs/layers"
 FOLDERS = "benches|crates|docs|examples|tools"
 NO_SOURCE = ("out", "target")

@@ -27,7 +27,7 @@ GROUPS = {
     "sources": ["promises", "documents", "reading", "shape", "packages"],
     "programs": [
         "examples", "slips", "explanations", "explained_words", "statuses", "options", "asking", "transcripts", "limits", "prefixes", "orders",
-        "monotone", "hostile",
+        "monotone", "values", "hostile",
     ],
     "compiled": ["tests", "walks", "driven", "refused_growth", "rustdoc_cases", "survey_cases", "bindings"],
     "by_hand": ["explained", "explained_json"],

@@ -2,7 +2,7 @@
 
 Items stay as they are. `prove` becomes a call of a function with the bound, in which variables are any types, like parameters. `refute`
 becomes a pair of impls that overlap unless the bound is refused. `later` and `supers` are left out, because rustc has no line for them: it
-checks supertraits with each impl. Fields that lead back to their own struct are in `PhantomData`, since Rust needs a size. Slices may be
+checks supertraits with each impl. Types of traits stay as they are. Fields that lead back to their own struct are in `PhantomData`, since Rust needs a size. Slices may be
 written as arrays, since Rust needs their items to be `Sized`.
 """
 from __future__ import annotations
@@ -35,10 +35,11 @@ class Crate:
 
 @dataclass(frozen=True)
 class Form:
-    """What is different for a family: parameters that may be unsized, slices as arrays."""
+    """What is different for a family: parameters that may be unsized, slices as arrays, an omitted lifetime that is written."""
 
     unsized: bool = False
     slices: bool = True
+    lifetimes: bool = False
 
 
 class Reader:
@@ -82,7 +83,13 @@ class Reader:
         token = self.peek()
         if token.startswith("'") or token.isdigit():
             return self.take()
-        return self.type()
+        return self.binding() if self.peek(1) == "=" else self.type()
+
+    def binding(self) -> str:
+        """What a type of a trait is."""
+        name = self.take()
+        self.take("=")
+        return f"{name} = {self.type()}"
 
     def arguments(self) -> str:
         return "<" + ", ".join(self.listed(">")) + ">" if self.has("<") else ""
@@ -96,6 +103,8 @@ class Reader:
         words = [sign]
         if self.peek().startswith("'"):
             words.append(self.take() + " ")
+        elif sign == "&" and self.form.lifetimes:
+            words.append("'static ")
         if self.peek() in ("mut", "const"):
             words.append(self.take() + " ")
         return "".join(words) + self.type(inside=True)
@@ -165,6 +174,17 @@ class Reader:
                 break
         return found
 
+    def types(self) -> list[str]:
+        """The types that a trait has, or that an impl gives, between braces."""
+        found: list[str] = []
+        if not self.has("{"):
+            return found
+        while not self.has("}"):
+            self.take("type")
+            found.append(self.binding() if self.peek(1) == "=" else self.take())
+            self.take(";")
+        return found
+
     def params(self) -> list[str]:
         """Parameters of a line, in their order and with their kinds."""
         found: list[str] = []
@@ -222,7 +242,8 @@ def trait_line(reader: Reader, form: Form, front: str, is_auto: bool) -> tuple[s
     while reader.has(":") or reader.has("+"):
         bounds.append(reader.named())
     supers = ": " + " + ".join(bounds) if bounds else ""
-    return name, f"{front}pub {'auto ' if is_auto else ''}trait {name}{params}{supers} {{}}"
+    types = " ".join(f"type {it}{': ?Sized' * form.unsized};" for it in reader.types())
+    return name, f"{front}pub {'auto ' if is_auto else ''}trait {name}{params}{supers} {{ {types} }}"
 
 
 def impl_line(reader: Reader, form: Form) -> str:
@@ -232,8 +253,8 @@ def impl_line(reader: Reader, form: Form) -> str:
     subject = reader.type()
     clauses = reader.clauses() if reader.has("where") else []
     where = " where " + ", ".join(clauses) if clauses else ""
-    return f"impl{declared(params, form)} {bound} for {subject}{where} {{}}"
-
+    types = " ".join(f"type {it};" for it in reader.types())
+    return f"impl{declared(params, form)} {bound} for {subject}{where} {{ {types} }}"
 
 
 def prove_call(reader: Reader, crate: Crate, form: Form, number: int) -> None:

@@ -544,7 +544,7 @@ class Asker:
         for name, places in self.translation.world.doc_cfgs.items():
             if crate_name(name) in crates:
                 return f"argued: items of {name} depend on `cfg(doc)`, which rustdoc sets ({', '.join(places)})"
-        # The definitions have no associated types, so that a pattern says what a clause on one says is no law.
+        # The definitions have no projections, so that a pattern says what a clause on one says is no law.
         if any(trait.endswith(THEN) for trait in reach.traits):
             return "argued: a clause on an associated type is asked as a pattern"
         return ""

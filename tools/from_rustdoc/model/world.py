@@ -17,7 +17,7 @@ from ..read.terms import ANY_HEAD, BadInput, Constant, Declaration, Impl, Lossy,
 from .objects import Place, Shape
 
 RESERVED = frozenset(("crate uses fundamental struct auto trait impl for where prove refute in later supers bool char str mut "
-                      "const fn dyn").split() + INTEGERS)
+                      "const fn dyn type").split() + INTEGERS)
 CORE_NAMES = frozenset("Sized Clone Copy Tuple FnPtr FnOnce FnMut Fn Unsize Box core".split())
 # Traits of Rust's core that the text's `core` has just so. (Its `Box` and `Fn` have other parameters, and nobody can add to them.)
 CORE_TRAITS = frozenset("Sized Clone Copy Tuple Unsize".split())
