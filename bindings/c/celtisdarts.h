@@ -131,6 +131,9 @@ enum {
     CELTISDARTS_INFER_ASSUME = 29         /* as for REGISTER: what is registered from now on has to hold under that and its supertraits */
 };
 
+/* `T: It<A, Item = U>` is the trait "It::Item" with the arguments of It, behind which stands the type of the name "::W" with the argument U.
+ * Whoever assumes it assumes `T: It<A>` too.
+ */
 /* Nothing is known of a parameter but what is assumed of it: it is that of a generic function in whose body types are inferred. What was
  * registered under assumptions, or with parameters in it, has a proof under them if it is done; if it is refused, nothing is promised.
  *

@@ -1112,11 +1112,37 @@ class Infer:
         WrongTerms."""
         return self.operate(Operation.REGISTER, lambda number: self.new(Obligation, number), args, to_name(trait))
 
+    def register_projection(self, trait: str, *args: Term, item: str, value: Term) -> Obligation:
+        """Registers that a type of this trait is this one: `T: Stream<Item = U>` is `register_projection("Stream", t, item="Item", value=u)`. It
+        holds where the bound itself holds and the value is that of the impl or of what is assumed, so that a variable takes its value from there.
+        Raises NoSuchName, also where the trait has no such type, and WrongTerms."""
+        companion, with_value = self.projection(trait, args, item, value)
+        return self.register(companion, *with_value)
+
     def assume(self, trait: str, *args: Term) -> None:
         """Assumes that these terms implement this trait, the self type first: a bound of the generic function whose types are inferred. What is
         registered from now on has to hold under that and the trait's supertraits, and may take values from it. What was registered before does not get
         it. `Sized` is never implicit. A rollback takes it back. Raises NoSuchName and WrongTerms."""
         self.operate(Operation.ASSUME, int, args, to_name(trait))
+
+    def assume_projection(self, trait: str, *args: Term, item: str, value: Term) -> None:
+        """Assumes that these terms implement this trait, and that a type of it is this one, as `assume` does. Raises NoSuchName, also where the
+        trait has no such type, and WrongTerms. Then nothing is assumed."""
+        companion, with_value = self.projection(trait, args, item, value)
+        self.start_snapshot()
+        try:
+            self.assume(trait, *args)
+            self.assume(companion, *with_value)
+        except Exception:
+            self.roll_back()
+            raise
+        self.commit()
+
+    def projection(self, trait: str, args: Sequence[Term], item: str, value: Term) -> Tuple[str, List[Term]]:
+        """The trait that says of a type of this trait what it is, with its arguments: behind the others the type, in a struct of `core`."""
+        for name in (trait, item):
+            to_name(name)
+        return f"{trait}::{item}", [*args, self.ty("::W", value)]
 
     def select_where_possible(self) -> Selected:
         """Selects the registered goals, until that fixes nothing new. What answers fix stays."""

@@ -2,7 +2,7 @@
 
 The steps are the receiver's type, what that dereferences to, and so on. Each step T is tried as T, &T and &mut T, and the first of these that
 the method takes ends the lookup. What follows from a call is kept, so it may decide the goals of earlier ones. A goal that is undecided
-counts. There are no associated types: `Deref<T>` stands for `Deref<Target = T>`.
+counts.
 
     $ python3 bindings/python/inference.py
     v: Box<File>
@@ -30,12 +30,12 @@ from celtisdarts import Infer, NoSolution, Refused, Standing, Term, Workspace
 
 TEXT = """\
 crate app
-trait Deref<T>
-impl<'a, T> Deref<T> for &'a T
-impl<'a, T> Deref<T> for &'a mut T
-impl<T> Deref<T> for Box<T>
+trait Deref { type Target; }
+impl<'a, T> Deref for &'a T { type Target = T; }
+impl<'a, T> Deref for &'a mut T { type Target = T; }
+impl<T> Deref for Box<T> { type Target = T; }
 struct Vec<T>(*const T)
-impl<T> Deref<[T]> for Vec<T>
+impl<T> Deref for Vec<T> { type Target = [T]; }
 trait Push<T>
 impl<T> Push<T> for Vec<T>
 struct File
@@ -72,7 +72,7 @@ def steps(context: Infer, step: Term) -> Iterator[Term]:
         yield step
         context.start_snapshot()
         target = context.fresh_ty()
-        goal = context.register("Deref", step, target)
+        goal = context.register_projection("Deref", step, item="Target", value=target)
         context.select_where_possible()
         if context.standing(goal) is not Standing.DONE:
             context.roll_back()

@@ -64,6 +64,17 @@ impl One for V<u8>
 trait Loop
 impl<T> Loop for T where V<T>: Loop
 """
+# A trait with a type, which an impl gives and generic functions ask for.
+STREAMS = """\
+crate a
+struct V<T>(*const T)
+struct Take<I>(I)
+trait Show
+impl Show for u8
+trait Stream { type Item; }
+impl<T> Stream for V<T> { type Item = T; }
+impl<T> Stream for Take<V<T>> where V<T>: Stream<Item = T> { type Item = T; }
+"""
 QUERY = re.compile(rb" *(?:prove|refute) +in +(\w+)")
 
 
@@ -566,6 +577,37 @@ class Contexts(unittest.TestCase):
             self.assertEqual(it.select_where_possible(), AllDone())
             self.assertEqual([it.standing(goal) for goal in goals], [Standing.DONE] * 3)
             self.assertEqual((str(it.resolve(unknown)), str(it.resolve(other))), ("V<!0t>", "u8"))
+
+    def test_projections_give_their_values(self) -> None:
+        with Workspace(STREAMS).session("a").infer() as it:
+            item, other = it.fresh_ty(), it.fresh_ty()
+            own = it.ty("V", other)
+            it.register_projection("Stream", it.ty("Take", own), item="Item", value=item)
+            it.register("Show", item)
+            it.eq(other, it.ty("u8"))
+            self.assertEqual((it.select_where_possible(), str(it.resolve(item))), (AllDone(), "u8"))
+            wrong = it.register_projection("Stream", own, item="Item", value=it.ty("str"))
+            self.assertEqual(it.select_where_possible(), Refused(wrong))
+
+    def test_an_assumed_projection_gives_its_value(self) -> None:
+        with Workspace(STREAMS).session("a").infer() as it:
+            t, item = it.param(0), it.fresh_ty()
+            it.assume_projection("Stream", t, item="Item", value=it.param(1))
+            it.register("Stream", t)
+            it.register_projection("Stream", t, item="Item", value=item)
+            self.assertEqual((it.select_where_possible(), str(it.resolve(item))), (AllDone(), "!1t"))
+
+    def test_projections_that_are_refused(self) -> None:
+        with Workspace(STREAMS).session("a").infer() as it:
+            t, three = it.param(0), it.constant(3)
+            for call in (it.register_projection, it.assume_projection):
+                self.refused(NoSuchName, [
+                    lambda: call("Stream", t, item="Thing", value=t), lambda: call("Show", t, item="Item", value=t),
+                    lambda: call("Stream", t, item="", value=t),
+                ])
+                self.refused(WrongTerms, [lambda: call("Stream", t, item="Item", value=three), lambda: call("Stream", item="Item", value=t)])
+                self.refused(TypeError, [lambda: call(None, t, item="Item", value=t), lambda: call("Stream", t, item=None, value=t)])
+            self.assertEqual((it.roll_back(), self.holds(it, "Stream", t)), (False, False))
 
     def test_what_was_registered_before_an_assumption(self) -> None:
         with self.generic() as it:

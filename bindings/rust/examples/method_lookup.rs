@@ -4,9 +4,8 @@
 //! by value, then by reference. The first type that a method takes ends the lookup. If methods of several traits take it, the call is
 //! ambiguous. A method with `self` takes `T` if `T` has its trait, one with `&self` takes `&T`. Whether `self` may be moved is not looked at.
 //!
-//! There are no associated types, so `Deref<T>` stands for `Deref<Target = T>`, and `T: Sized` is written out. A trait whose bound is `maybe`
-//! counts, as in rustc: its arguments are open. If the bound is `unproved`, no impl that the crate sees gives the type this trait. Another
-//! crate may. It prints:
+//! `T: Sized` is written out. A trait whose bound is `maybe` counts, as in rustc: its arguments are open. If the bound is `unproved`, no impl
+//! that the crate sees gives the type this trait. Another crate may. It prints:
 //!
 //! ```text
 //! File.show(): step 0, &File: Show for File
@@ -36,18 +35,18 @@ use Takes::{Reference, Value};
 
 const TEXT: &str = "\
 crate std
-trait Deref<T>
-impl<'a, T> Deref<T> for &'a T
-impl<'a, T> Deref<T> for &'a mut T
-impl<T> Deref<T> for Box<T>
+trait Deref { type Target; }
+impl<'a, T> Deref for &'a T { type Target = T; }
+impl<'a, T> Deref for &'a mut T { type Target = T; }
+impl<T> Deref for Box<T> { type Target = T; }
 struct Rc<T>(*const T)
-impl<T> Deref<T> for Rc<T>
+impl<T> Deref for Rc<T> { type Target = T; }
 struct Vec<T>(*const T)
-impl<T> Deref<[T]> for Vec<T>
+impl<T> Deref for Vec<T> { type Target = [T]; }
 crate app uses std
 struct File
 struct Loop
-impl Deref<Loop> for Loop
+impl Deref for Loop { type Target = Loop; }
 trait Show
 impl Show for File
 impl Show for Loop
@@ -151,7 +150,7 @@ fn value(session: &Session, bound: &str) -> Result<Option<String>, Error> {
 fn steps(session: &Session, receiver: &str) -> Result<Option<Vec<String>>, Error> {
     let mut steps = Vec::new();
     let mut last = receiver.to_string();
-    while let Some(target) = value(session, &format!("{last}: Deref<?t>"))? {
+    while let Some(target) = value(session, &format!("{last}: Deref<Target = ?t>"))? {
         if steps.len() == MOST_STEPS {
             return Ok(None);
         }

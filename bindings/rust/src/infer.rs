@@ -89,6 +89,9 @@ pub struct Infer {
     open: usize,
 }
 
+/// The struct of `core` around the type that a projection is about.
+const WRAPPER: &str = "::W";
+
 fn locked(reading: &Mutex<Option<Reading>>) -> MutexGuard<'_, Option<Reading>> {
     // (What it guards is whole at any time.)
     reading.lock().unwrap_or_else(PoisonError::into_inner)
@@ -376,6 +379,39 @@ impl Infer {
         Ok(ObligationId(given))
     }
 
+    /// Registers that a type of a trait is this one: `T: Stream<Item = U>` is `register_projection("Stream", &[t], "Item", u)`. It holds where the
+    /// bound itself holds and the value is that of the impl or of what is assumed, so that a variable takes its value from there.
+    ///
+    /// rustc: `register_obligation` of a `ProjectionPredicate`. rust-analyzer: `AliasEq`.
+    ///
+    /// ```
+    /// # use celtisdarts::{Depth, Selected, Workspace};
+    /// # let text = "crate a\nstruct V<T>(T)\ntrait Stream { type Item; }\nimpl<T> Stream for V<T> { type Item = T; }\n";
+    /// # let mut infer = Workspace::parse(text, Depth::default())?.session("a")?.infer()?;
+    /// let byte = infer.ty("u8", &[])?;
+    /// let list = infer.ty("V", &[byte])?;
+    /// let item = infer.fresh_ty()?;
+    /// infer.register_projection("Stream", &[list], "Item", item)?;
+    /// assert_eq!(infer.select_where_possible()?, Selected::AllDone);
+    /// let value = infer.resolve(item)?;
+    /// assert_eq!(infer.display(value)?, "u8");
+    /// # Ok::<(), celtisdarts::Error>(())
+    /// ```
+    ///
+    /// # Errors
+    ///
+    /// Those of [`Infer::register`], and [`Error::NoSuchName`] where the trait has no such type. Then nothing is registered.
+    pub fn register_projection(
+        &mut self,
+        trait_name: &str,
+        args: &[Term],
+        item: &str,
+        value: Term,
+    ) -> Result<ObligationId, Error> {
+        let (companion, args) = self.projection(trait_name, args, item, value)?;
+        self.register(&companion, &args)
+    }
+
     /// Assumes a bound: that these terms implement the trait, the self type first. What is registered from now on has to hold under it and under
     /// the trait's supertraits, and may take values from it. What was registered before does not get it. A rollback takes it back.
     ///
@@ -403,6 +439,45 @@ impl Infer {
     pub fn assume(&mut self, trait_name: &str, args: &[Term]) -> Result<(), Error> {
         self.of_name(sys::INFER_ASSUME, trait_name, args)
             .map(|_| ())
+    }
+
+    /// Assumes that these terms implement the trait, and that a type of it is this one: `T: Stream<Item = U>` is
+    /// `assume_projection("Stream", &[t], "Item", u)`. Otherwise as [`Infer::assume`].
+    ///
+    /// rustc: a `ProjectionPredicate` in the `ParamEnv`, beside the bound.
+    ///
+    /// # Errors
+    ///
+    /// Those of [`Infer::register_projection`]. Then nothing is assumed.
+    pub fn assume_projection(
+        &mut self,
+        trait_name: &str,
+        args: &[Term],
+        item: &str,
+        value: Term,
+    ) -> Result<(), Error> {
+        let (companion, with_value) = self.projection(trait_name, args, item, value)?;
+        self.start_snapshot()?;
+        let assumed = self
+            .assume(trait_name, args)
+            .and_then(|()| self.assume(&companion, &with_value));
+        match assumed {
+            Ok(()) => self.commit().map(|_| ()),
+            Err(error) => self.roll_back().and(Err(error)),
+        }
+    }
+
+    /// The trait that says of a type of this trait what it is, with its arguments.
+    fn projection(
+        &mut self,
+        trait_name: &str,
+        args: &[Term],
+        item: &str,
+        value: Term,
+    ) -> Result<(String, Vec<Term>), Error> {
+        let value = self.ty(WRAPPER, &[value])?;
+        let with_value = args.iter().copied().chain([value]).collect();
+        Ok((format!("{trait_name}::{item}"), with_value))
     }
 
     /// Evaluates the obligations that are not done, in the order in which they were registered, until that fixes no more values. What an answer

@@ -45,6 +45,18 @@ trait Loop
 impl<T> Loop for T where V<T>: Loop
 ";
 
+/// A trait with a type, which an impl gives and generic functions ask for.
+const STREAMS: &str = "\
+crate a
+struct V<T>(*const T)
+struct Take<I>(I)
+trait Show
+impl Show for u8
+trait Stream { type Item; }
+impl<T> Stream for V<T> { type Item = T; }
+impl<T> Stream for Take<V<T>> where V<T>: Stream<Item = T> { type Item = T; }
+";
+
 /// Its search goes down to the depth limit at whatever depth, by the largest frames that were found.
 const DEEPEST: &str = include_str!("texts/deepest.txt");
 
@@ -523,6 +535,58 @@ fn an_impl_gives_a_value_with_a_parameter() -> Result<(), Error> {
     infer.register("Show", &[v])?;
     assert_eq!(infer.select_where_possible(), Ok(Selected::AllDone));
     assert_eq!(shown(&mut infer, v), "V<!0t>");
+    Ok(())
+}
+
+#[test]
+fn a_projection_gives_its_value() -> Result<(), Error> {
+    let mut infer = workspace(STREAMS).session("a")?.infer()?;
+    let (byte, item, other) = (infer.ty("u8", &[])?, infer.fresh_ty()?, infer.fresh_ty()?);
+    let list = infer.ty("V", &[other])?;
+    let taken = infer.ty("Take", &[list])?;
+    infer.register_projection("Stream", &[taken], "Item", item)?;
+    infer.register("Show", &[item])?;
+    infer.eq(other, byte)?;
+    assert_eq!(infer.select_where_possible(), Ok(Selected::AllDone));
+    assert_eq!(shown(&mut infer, item), "u8");
+    let text = infer.ty("str", &[])?;
+    let wrong = infer.register_projection("Stream", &[list], "Item", text)?;
+    assert_eq!(infer.select_where_possible(), Ok(Selected::Refused(wrong)));
+    Ok(())
+}
+
+#[test]
+fn an_assumed_projection_gives_its_value() -> Result<(), Error> {
+    let mut infer = workspace(STREAMS).session("a")?.infer()?;
+    let (t, u, item) = (infer.param(0)?, infer.param(1)?, infer.fresh_ty()?);
+    infer.assume_projection("Stream", &[t], "Item", u)?;
+    infer.register("Stream", &[t])?;
+    infer.register_projection("Stream", &[t], "Item", item)?;
+    assert_eq!(infer.select_where_possible(), Ok(Selected::AllDone));
+    assert_eq!(shown(&mut infer, item), "!1t");
+    Ok(())
+}
+
+#[test]
+fn projections_that_are_refused_leave_nothing() -> Result<(), Error> {
+    let mut infer = workspace(STREAMS).session("a")?.infer()?;
+    let (t, length) = (infer.param(0)?, infer.constant(3)?);
+    for (name, item) in [("Stream", "Thing"), ("Show", "Item"), ("Stream", "")] {
+        assert_eq!(
+            infer.register_projection(name, &[t], item, t),
+            Err(Error::NoSuchName)
+        );
+        assert_eq!(
+            infer.assume_projection(name, &[t], item, t),
+            Err(Error::NoSuchName)
+        );
+    }
+    assert_eq!(
+        infer.assume_projection("Stream", &[t], "Item", length),
+        Err(Error::WrongTerms)
+    );
+    assert_eq!(infer.roll_back(), Ok(false));
+    assert!(!holds(&mut infer, "Stream", &[t]));
     Ok(())
 }
 
