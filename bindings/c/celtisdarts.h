@@ -44,7 +44,7 @@ enum {
     CELTISDARTS_MEMORY = 3,        /* a request for memory was refused */
     CELTISDARTS_FULL = 4,          /* a table of terms, of goals or of answers was full */
     CELTISDARTS_TOO_SHORT = 5,     /* the buffer is too short: *needed is how long it has to be */
-    CELTISDARTS_NOT_A_QUERY = 6,   /* the line has no fault, but asks nothing */
+    CELTISDARTS_NOT_A_QUERY = 6,   /* the line asks nothing; it has no fault, but of a trait or an impl with types that is not said */
     CELTISDARTS_SEVERAL_LINES = 7, /* the line holds a line feed */
     CELTISDARTS_TOO_LONG = 8,      /* the text and the line together are longer than 67,108,864 bytes */
     CELTISDARTS_NO_CRATE = 9,      /* the text has no crate of that number */

@@ -260,7 +260,8 @@ class QuestionFault(CeltisdartsError):
 
 
 class NotAQuery(CeltisdartsError):
-    """The line has no fault, but asks nothing: it is a declaration, a check, a comment or empty."""
+    """The line asks nothing: it is a declaration, a check, a comment or empty. It has no fault, but of a trait or an impl with types that is
+    not said."""
 
 
 class SeveralLines(CeltisdartsError):

@@ -64,7 +64,8 @@ pub enum Error {
     },
     /// The question has a fault.
     Question(FaultKind),
-    /// The line has no fault, but asks nothing: it is a declaration, a check, a comment or empty.
+    /// The line asks nothing: it is a declaration, a check, a comment or empty. It has no fault, but of a trait or an impl with types that is
+    /// not said.
     NotAQuery,
     /// The question holds a line feed before its end.
     SeveralLines,

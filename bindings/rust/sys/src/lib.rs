@@ -43,7 +43,7 @@ pub const MEMORY: u32 = 3;
 pub const FULL: u32 = 4;
 /// The buffer is too short: `needed` is how long it has to be.
 pub const TOO_SHORT: u32 = 5;
-/// The line has no fault, but asks nothing.
+/// The line asks nothing. It has no fault, but of a trait or an impl with types that is not said.
 pub const NOT_A_QUERY: u32 = 6;
 /// The line holds a line feed.
 pub const SEVERAL_LINES: u32 = 7;
